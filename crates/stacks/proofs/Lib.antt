@@ -1,0 +1,13 @@
+pub mod Counts
+pub mod Exchange
+pub mod Floors
+pub mod Heights
+pub mod Kept
+pub mod Passing
+pub mod Runs
+pub mod Selection
+pub mod Shift
+pub mod Stores
+pub mod Sums
+pub mod ThreeShafts
+pub mod TwoShafts

@@ -1,0 +1,1 @@
+// Stores as stacks: definitions in specs/, theorems in proofs/. The crate has no code.

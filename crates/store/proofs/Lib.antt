@@ -1,0 +1,16 @@
+pub mod Acceptance
+pub mod Checks
+pub mod Faulted
+pub mod InPlace
+pub mod Lifting
+pub mod MarkLaws
+pub mod Once
+pub mod Played
+pub mod Playing
+pub mod Refusals
+pub mod Replays
+pub mod Rows
+pub mod Verdicts
+pub mod Views
+pub mod Walk
+pub mod Words

@@ -1,0 +1,219 @@
+-- The slot view and the stack view of a store agree: a lift of the one is a step of the other, and stores with the same stacks are the same.
+use mathlib.Core.List.{List, _∷_}
+use mathlib.Core.Path.{_≡_, sym, ap, _∙_, subst, fun-ext}
+use Prim.Native.Nat.{ℕ, suc, _+_, _-_, _/_, _%_, _≤_, _<_}
+use native.Mathlib.Decide.{decLt, ℕ-discrete}
+use native.Mathlib.Nat.{div-add-mod}
+use native.Mathlib.Omega.{arith}
+use lib.ListN.{length, getD, set, length-set}
+use lib.Seq.{getD-set-same, getD-set-other, ext-getD}
+use Rattle.stacks.specs.Run.{Stacks, Lift, Step}
+use Rattle.stacks.specs.Moves.{lift}
+use Rattle.store.specs.declared.Store.{Store}
+use Rattle.store.specs.Slots.{depth, height, slot, downward, stack}
+use Rattle.store.specs.Lifts.{Allowed, placedAt, lifted}
+use Rattle.store.specs.Sound.{Shaped}
+use Rattle.store.proofs.Rows.{row, slot-row, placed-length, placed-same, placed-other, stack-length, stack-top, same-rows, rows-same}
+
+-- Definition 3.2, slot by slot: the slot left is empty, the slot entered holds the cassette, every other slot is as it was, and so are the heights
+-- but for the two shafts.
+pub record Moved (s : Store) (a b : ℕ) (t : Store) : Type 0 where
+  pub gone : slot t a (height s a) ≡ 0
+  pub placed : slot t b (suc (height s b)) ≡ slot s a (height s a)
+  pub lower : suc (height t a) ≡ height s a
+  pub higher : height t b ≡ suc (height s b)
+  pub others : (x : ℕ) → (x ≡ a → ⊥) → (x ≡ b → ⊥) → height t x ≡ height s x
+  pub kept : (x k : ℕ) → x < 16 → k < 16 → ((x ≡ a) × (suc k ≡ height s a) → ⊥) → ((x ≡ b) × (k ≡ height s b) → ⊥) → slot t x (suc k) ≡ slot s x (suc k)
+
+-- what a lift makes of each height, and of the slots but for the one entered
+module _ (s : Store) (a b : ℕ) (p : Shaped s) (q : Allowed s a b) where
+  left-height : height (lifted s a b) a ≡ height s a - 1
+  unfolding lifted
+  left-height =
+      getD-set-other (set (s .heights) a (height s a - 1)) b a (height s b + 1) 0 (q .differ)
+      ∙ getD-set-same (s .heights) a (height s a - 1) 0 (omega arith)
+
+  entered-height : height (lifted s a b) b ≡ height s b + 1
+  unfolding lifted
+  entered-height =
+      let l : List ℕ = set (s .heights) a (height s a - 1) in
+      let n : length l ≡ 16 = length-set (s .heights) a (height s a - 1) ∙ p .heights-sized in
+      getD-set-same l b (height s b + 1) 0 (omega arith)
+
+  other-height : (x : ℕ) → (x ≡ a → ⊥) → (x ≡ b → ⊥) → height (lifted s a b) x ≡ height s x
+  unfolding lifted
+  other-height x i j =
+      getD-set-other (set (s .heights) a (height s a - 1)) b x (height s b + 1) 0 j
+      ∙ getD-set-other (s .heights) a x (height s a - 1) 0 i
+
+  other-slot : (x n : ℕ) → n ≤ 16 → ((x ≡ b) × (n ≡ suc (height s b)) → ⊥) → slot (lifted s a b) x n ≡ row (placedAt (s .slots) a (height s a) 0) x n
+  unfolding lifted
+  other-slot x n i d =
+      slot-row (lifted s a b) x n
+      ∙ placed-other (placedAt (s .slots) a (height s a) 0) b (suc (height s b)) (slot s a (height s a)) x n (omega arith) i d
+
+pub lift-moves : (s : Store) (a b : ℕ) → Shaped s → Allowed s a b → Moved s a b (lifted s a b)
+unfolding lifted
+lift-moves s a b p q =
+    let a-rows : height s a ≤ s .h = p .heights a in
+    let l : List ℕ = placedAt (s .slots) a (height s a) 0 in
+    let n : length l ≡ 256 = placed-length (s .slots) a (height s a) 0 ∙ p .slots-sized in
+    record {
+      gone = other-slot s a b p q a (height s a) (omega arith) (λ z. q .differ (z .0))
+          ∙ placed-same (s .slots) a (height s a) 0 (p .slots-sized) (omega arith) (q .taken) (omega arith);
+      placed = slot-row (lifted s a b) b (suc (height s b))
+          ∙ placed-same l b (suc (height s b)) (slot s a (height s a)) n (omega arith) (omega arith) (omega arith);
+      lower = omega (arith, left-height s a b p q);
+      higher = omega (arith, entered-height s a b p q);
+      others = other-height s a b p q;
+      kept = λ x k i j d f. other-slot s a b p q x (suc k) j (λ z. f (z .0, omega arith))
+          ∙ placed-other (s .slots) a (height s a) 0 x (suc k) (omega arith) j d ∙ sym (slot-row s x (suc k));
+    }
+
+-- what holds of both shafts of a lift and of every other shaft holds of all
+at-and-elsewhere : (P : ℕ → Type 0) (a b : ℕ) → P a → P b → ((x : ℕ) → (x ≡ a → ⊥) → (x ≡ b → ⊥) → P x) → (x : ℕ) → P x
+at-and-elsewhere P a b u v w x =
+    elim (ℕ-discrete x a) [
+      | yes e ↦ subst P (sym e) u
+      | no i ↦ elim (ℕ-discrete x b) [ yes e ↦ subst P (sym e) v | no j ↦ w x i j ]
+    ]
+
+-- after a lift nothing stands above the new heights
+module _ (s : Store) (a b : ℕ) (p : Shaped s) (q : Allowed s a b) where
+  left-above : (k : ℕ) → a < 16 → k < 16 → height (lifted s a b) a ≤ k → slot (lifted s a b) a (suc k) ≡ 0
+  left-above k i j h =
+      let v = lift-moves s a b p q in
+      elim (ℕ-discrete (suc k) (height s a)) [
+        | yes e ↦ ap (slot (lifted s a b) a) e ∙ v .gone
+        | no n ↦ v .kept a k i j (λ z. n (z .1)) (λ z. q .differ (z .0)) ∙ p .none-above a k i j (omega arith)
+      ]
+
+  entered-above : (k : ℕ) → b < 16 → k < 16 → height (lifted s a b) b ≤ k → slot (lifted s a b) b (suc k) ≡ 0
+  entered-above k i j h =
+      let v = lift-moves s a b p q in
+      v .kept b k i j (λ z. q .differ (sym (z .0))) (omega arith) ∙ p .none-above b k i j (omega arith)
+
+  other-above : (x : ℕ) → (x ≡ a → ⊥) → (x ≡ b → ⊥) → (k : ℕ) → x < 16 → k < 16 → height (lifted s a b) x ≤ k → slot (lifted s a b) x (suc k) ≡ 0
+  other-above x n o k i j h =
+      let v = lift-moves s a b p q in
+      v .kept x k i j (λ z. n (z .0)) (λ z. o (z .0)) ∙ p .none-above x k i j (omega (arith, v .others x n o))
+
+pub lifted-shaped : (s : Store) (a b : ℕ) → Shaped s → Allowed s a b → Shaped (lifted s a b)
+unfolding lifted
+lifted-shaped s a b p q =
+    let t : Store = lifted s a b in
+    let v : Moved s a b t = lift-moves s a b p q in
+    record {
+      heights-sized = simp length-set (p .heights-sized);
+      slots-sized = simp (length-set, placed-length) (p .slots-sized);
+      shafts = p .shafts;
+      rows = p .rows;
+      heights = at-and-elsewhere (λ x. height t x ≤ s .h) a b (omega (arith, p .heights a)) (omega arith)
+          (λ x i j. rw (v .others x i j) (p .heights x));
+      none-beyond = λ x i. v .others x (omega arith) (omega arith) ∙ p .none-beyond x i;
+      none-above = at-and-elsewhere (λ x. (k : ℕ) → x < 16 → k < 16 → height t x ≤ k → slot t x (suc k) ≡ 0) a b
+          (left-above s a b p q) (entered-above s a b p q) (other-above s a b p q);
+    }
+
+-- a shaft that holds a cassette is one of the 16
+shaft-below : (s : Store) (x : ℕ) → Shaped s → 0 < height s x → x < 16
+shaft-below s x p h =
+    elim (decLt x (s .m)) [
+      | yes i ↦ omega arith
+      | no i ↦ absurd (omega (arith, p .none-beyond x (omega arith)))
+    ]
+
+-- what a lift makes of each stack
+module _ (s : Store) (a b : ℕ) (p : Shaped s) (q : Allowed s a b) where
+  left-rows : (k : ℕ) → k < height (lifted s a b) a → slot s a (suc k) ≡ slot (lifted s a b) a (suc k)
+  left-rows k h =
+      let v = lift-moves s a b p q in
+      sym (v .kept a k (omega arith) (omega (arith, p .heights a)) (omega arith) (λ z. q .differ (z .0)))
+
+  left-stack : stack s a ≡ slot s a (height s a) ∷ stack (lifted s a b) a
+  unfolding stack
+  left-stack =
+      let v = lift-moves s a b p q in
+      let n = height (lifted s a b) a in
+      stack-top s a n (v .lower) ∙ rw (same-rows s (lifted s a b) a n left-rows)
+
+  entered-rows : (k : ℕ) → k < height s b → slot (lifted s a b) b (suc k) ≡ slot s b (suc k)
+  entered-rows k h =
+      lift-moves s a b p q .kept b k (omega arith) (omega arith) (λ z. q .differ (sym (z .0))) (omega arith)
+
+  entered-stack : stack (lifted s a b) b ≡ slot s a (height s a) ∷ stack s b
+  unfolding stack
+  entered-stack =
+      let v = lift-moves s a b p q in
+      stack-top (lifted s a b) b (height s b) (sym (v .higher))
+      ∙ rw (v .higher, v .placed, same-rows (lifted s a b) s b (height s b) entered-rows)
+
+  other-rows : (x : ℕ) → (x ≡ a → ⊥) → (x ≡ b → ⊥) → (k : ℕ) → k < height s x → slot (lifted s a b) x (suc k) ≡ slot s x (suc k)
+  other-rows x i j k h =
+      let v = lift-moves s a b p q in
+      v .kept x k (shaft-below s x p (omega arith)) (omega (arith, p .heights x)) (λ z. i (z .0)) (λ z. j (z .0))
+
+  other-stack : (x : ℕ) → (x ≡ a → ⊥) → (x ≡ b → ⊥) → stack (lifted s a b) x ≡ stack s x
+  unfolding stack
+  other-stack x i j = rw (other-height s a b p q x i j) (same-rows (lifted s a b) s x (height s x) (other-rows x i j))
+
+-- an allowed lift is a step of the stacks
+pub lift-step : (s : Store) (a b : ℕ) → Shaped s → Allowed s a b → Step (s .m) (depth s) (lift a b) (stack s) (stack (lifted s a b))
+lift-step s a b p q = record {
+  differ = q .differ;
+  left-below = q .left-below;
+  entered-below = q .entered-below;
+  cassette = slot s a (height s a);
+  taken = left-stack s a b p q;
+  placed = entered-stack s a b p q;
+  room = rw stack-length (q .room);
+  kept = other-stack s a b p q;
+}
+
+-- a step of the stacks is an allowed lift
+pub step-allowed : (s : Store) (l : Lift) (T : Stacks) → Shaped s → Step (s .m) (depth s) l (stack s) T → Allowed s (l .left) (l .entered)
+step-allowed s l T p q = record {
+  left-below = q .left-below;
+  entered-below = q .entered-below;
+  differ = q .differ;
+  taken = omega (arith, stack-length s (l .left), ap length (q .taken));
+  room = rw stack-length at (q .room);
+}
+
+-- and leads to the stacks of the store after it
+pub step-lifted : (s : Store) (l : Lift) (T : Stacks) → Shaped s → Step (s .m) (depth s) l (stack s) T → stack (lifted s (l .left) (l .entered)) ≡ T
+step-lifted s l T p q =
+    let t : Store = lifted s (l .left) (l .entered) in
+    let r : Step (s .m) (depth s) l (stack s) (stack t) = lift-step s (l .left) (l .entered) p (step-allowed s l T p q) in
+    fun-ext (at-and-elsewhere (λ x. stack t x ≡ T x) (l .left) (l .entered) (cc) (cc) λ x i j. r .kept x i j ∙ sym (q .kept x i j))
+
+-- shaped stores with the same stacks have the same heights and the same slots
+module _ (s t : Store) (p : Shaped s) (q : Shaped t) (g : (x : ℕ) → stack s x ≡ stack t x) where
+  same-height : (x : ℕ) → height s x ≡ height t x
+  same-height x = sym (stack-length s x) ∙ ap length (g x) ∙ stack-length t x
+
+  same-heights : s .heights ≡ t .heights
+  same-heights = ext-getD 0 (s .heights) (t .heights) (p .heights-sized ∙ sym (q .heights-sized)) λ x h. same-height x
+
+  same-slot : (x k : ℕ) → x < 16 → k < 16 → slot s x (suc k) ≡ slot t x (suc k)
+  unfolding stack
+  same-slot x k i j =
+      let e : height s x ≡ height t x = same-height x in
+      elim (decLt k (height s x)) [
+        | yes h ↦ rows-same s t x (height s x) k (g x ∙ ap (downward t x) (sym e)) h
+        | no h ↦ p .none-above x k i j (omega arith) ∙ sym (q .none-above x k i j (omega arith))
+      ]
+
+  same-at : (i : ℕ) → i < 256 → getD (s .slots) i 0 ≡ getD (t .slots) i 0
+  unfolding slot
+  same-at i h =
+      let e = same-slot (i / 16) (i % 16) (omega arith) (omega arith) in
+      rw div-add-mod at e
+
+  same-slots : s .slots ≡ t .slots
+  same-slots =
+      ext-getD 0 (s .slots) (t .slots) (p .slots-sized ∙ sym (q .slots-sized)) λ i h. same-at i (omega (arith, p .slots-sized))
+
+-- no two shaped stores of the same m and h have the same stacks
+pub same-stacks : (s t : Store) → Shaped s → Shaped t → s .m ≡ t .m → s .h ≡ t .h → ((x : ℕ) → stack s x ≡ stack t x) → s ≡ t
+same-stacks s t p q e f g = λ i. record { m = e i; h = f i; heights = same-heights s t p q g i; slots = same-slots s t p q g i }

@@ -1,0 +1,34 @@
+-- The cassettes present as a set of marks: four words of 64 bits, bit c % 64 of word c / 64 for cassette c (document 01, "The store": "kept as a set of
+-- marks, and n is the number of marks").
+use mathlib.Core.List.{List, [], _∷_}
+use Prim.Native.Nat.{ℕ, _+_, _/_, _%_, _^_}
+use lib.ListN.{getD, set, replicate}
+use lib.Bits.{bitOr}
+use lib.Count.{ones}
+use Rattle.store.specs.declared.Store.{Store}
+use Rattle.store.specs.Slots.{cassettes}
+
+abbrev pub noMarks : List ℕ
+noMarks = replicate 4 0
+
+-- cassette c is marked: 1, or else 0
+unfoldable pub marked : List ℕ → ℕ → ℕ
+marked w c = getD w (c / 64) 0 / 2 ^ (c % 64) % 2
+
+-- the marks with cassette c among them
+unfoldable pub withMark : List ℕ → ℕ → List ℕ
+withMark w c = set w (c / 64) (bitOr (getD w (c / 64) 0) (2 ^ (c % 64)))
+
+-- the marks w with each cassette of a list added
+unfoldable pub withMarks : List ℕ → List ℕ → List ℕ
+unfolding withMark
+withMarks w [] = w
+withMarks w (c ∷ l) = withMarks (withMark w c) l
+
+-- "the number of marks": the ones of the four words
+unfoldable pub markCount : List ℕ → ℕ
+markCount w = ones (getD w 0 0) + ones (getD w 1 0) + ones (getD w 2 0) + ones (getD w 3 0)
+
+unfoldable pub marksOf : Store → List ℕ
+unfolding withMarks
+marksOf s = withMarks noMarks (cassettes s)

@@ -1,0 +1,105 @@
+// The single lift (document 000, Definition 3.2): "takes the top cassette of one shaft and sets it on top of another".
+use crate::Answer;
+use crate::Lifted;
+use crate::Refusal;
+use crate::Shaft;
+use crate::Store;
+use crate::Verdict;
+use crate::wide;
+ghost use mathlib.Core.Path.{_≡_};
+ghost use Prim.Native.Nat.{_≤_};
+ghost use Rattle.store.specs.Slots.{height};
+ghost use Rattle.store.specs.Lifts.{Allowed, liftRefusal, lifted};
+ghost use Rattle.store.specs.Numbers.{judgedNumber};
+ghost use Rattle.store.specs.Promises.{LiftIs};
+ghost use Rattle.store.specs.Sound.{Shaped};
+
+// Whether a lift is allowed.
+pub enum Judged {
+    Allowed,
+    Refused(Refusal),
+}
+
+// Whether a lift is allowed in a store of at most 16 shafts, or else why not.
+pub fn judge(s: Store, from: Shaft, to: Shaft) -> Judged
+    requires { ⌜ s .m ≤ 16 ⌝ }
+    ensures { λ r. ⌜ judgedNumber r ≡ liftRefusal s (from .0) (to .0) ⌝ }
+{
+    if s.m <= from.0 {
+        return Judged::Refused(Refusal::Shafts);
+    }
+    if s.m <= to.0 {
+        return Judged::Refused(Refusal::Shafts);
+    }
+    if from.0 == to.0 {
+        return Judged::Refused(Refusal::Shafts);
+    }
+    if s.height(from) == 0 {
+        return Judged::Refused(Refusal::Empty);
+    }
+    if s.h <= s.height(to) {
+        return Judged::Refused(Refusal::Full);
+    }
+    Judged::Allowed
+}
+
+// The store after an allowed lift between two shafts.
+fn move_between(s: Store, i: usize, j: usize) -> Store
+    requires { ⌜ Shaped s ⌝ }
+    requires { ⌜ Allowed s i j ⌝ }
+    ensures { λ r. ⌜ r ≡ lifted s i j ⌝ }
+{
+    let top = s.heights[i];
+    let low = s.heights[j];
+    let left = 16 * i + (wide(top) - 1);
+    let entered = 16 * j + wide(low);
+    let c = s.slots[left];
+    let mut t = s;
+    t.slots[left] = 0;
+    t.slots[entered] = c;
+    t.heights[i] = top - 1;
+    t.heights[j] = low + 1;
+    t
+}
+
+pub fn move_top(s: Store, from: Shaft, to: Shaft) -> Store
+    requires { ⌜ Shaped s ⌝ }
+    requires { ⌜ Allowed s (from .0) (to .0) ⌝ }
+    ensures { λ r. ⌜ r ≡ lifted s (from .0) (to .0) ⌝ }
+{
+    move_between(s, wide(from.0), wide(to.0))
+}
+
+impl Store {
+    // The height of a shaft; 0 for a shaft above 15.
+    pub fn height(self, x: Shaft) -> u8
+        ensures { λ r. ⌜ r ≡ height self (x .0) ⌝ }
+    {
+        let i = wide(x.0);
+        if i < 16 { self.heights[i] } else { 0 }
+    }
+
+    // One lift: the changed store, or the store as it came with the number that refuses it.
+    pub fn lift(self, from: Shaft, to: Shaft) -> Lifted
+        ensures { λ r. ⌜ LiftIs self (from .0) (to .0) r ⌝ }
+    {
+        let checked = self.check();
+        let verdict = checked.verdict;
+        if let Verdict::Refused(f) = verdict {
+            return Lifted {
+                store: self,
+                answer: Answer::StoreRefused(f),
+            };
+        }
+        if let Judged::Refused(r) = judge(self, from, to) {
+            return Lifted {
+                store: self,
+                answer: Answer::LiftRefused(r),
+            };
+        }
+        Lifted {
+            store: move_top(self, from, to),
+            answer: Answer::Done,
+        }
+    }
+}
