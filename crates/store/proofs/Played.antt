@@ -4,21 +4,14 @@ use mathlib.Core.Path.{_≡_, refl, sym, ap, _∙_, subst}
 use Prim.Native.Nat.{ℕ, _<_}
 use native.Mathlib.Omega.{arith}
 use Rattle.stacks.specs.Run.{Stacks, Lift, Step, Run, done, step}
-use Rattle.stacks.specs.Moves.{lift}
 use Rattle.store.specs.declared.Store.{Store}
 use Rattle.store.specs.Slots.{depth, stack}
 use Rattle.store.specs.Lifts.{Allowed, lifted}
-use Rattle.store.specs.Lists.{left, entered, liftByte, Leads, ended, then}
+use Rattle.store.specs.Lists.{left, entered, byteOf, liftOf, Leads, ended, then}
 use Rattle.store.specs.Sound.{Shaped}
 use Rattle.store.proofs.Views.{lifted-shaped, lift-step, step-allowed, step-lifted, same-stacks}
 
 -- a list of bytes, played on the store, is a run of the stacks
-abbrev pub liftOf : ℕ → Lift
-liftOf b = lift (left b) (entered b)
-
-abbrev pub byteOf : Lift → ℕ
-byteOf l = liftByte (l .left) (l .entered)
-
 pub leads-run : {s t : Store} {bs : List ℕ} → Shaped s → Leads s bs t → Run (s .m) (depth s) (stack s) (map liftOf bs) (stack t)
 unfolding lifted
 leads-run p ended = done

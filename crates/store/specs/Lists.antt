@@ -1,7 +1,8 @@
 -- Lists of lifts: the byte of a lift, where a legal list leads, reachable stores, and what a replay comes to (document 01, "The list", "Which goals can
 -- be reached", "Which comes first").
-use mathlib.Core.List.{List, [], _∷_}
+use mathlib.Core.List.{List, [], _∷_, map, reverseAux}
 use Prim.Native.Nat.{ℕ, zero, suc, _+_, _*_, _/_, _%_}
+use Rattle.stacks.specs.Run.{Lift}
 use Rattle.store.specs.declared.Store.{Store}
 use Rattle.store.specs.Accept.{storeFault}
 use Rattle.store.specs.Lifts.{Allowed, liftRefusal, lifted}
@@ -15,6 +16,23 @@ entered b = b % 16
 
 abbrev pub liftByte : ℕ → ℕ → ℕ
 liftByte x y = 16 * x + y
+
+-- the byte of a lift and the lift of a byte
+abbrev pub byteOf : Lift → ℕ
+byteOf l = liftByte (l .left) (l .entered)
+
+abbrev pub liftOf : ℕ → Lift
+liftOf b = record { left = left b; entered = entered b }
+
+abbrev pub bytesOf : List Lift → List ℕ
+bytesOf ls = map byteOf ls
+
+-- a list turned about: reversed, with the two shafts of each lift exchanged
+abbrev pub turnedByte : ℕ → ℕ
+turnedByte b = liftByte (entered b) (left b)
+
+abbrev pub backward : List ℕ → List ℕ
+backward bs = reverseAux (map turnedByte bs) []
 
 -- "A list is legal from a store if each lift names shafts below m and is legal in the store that the lifts before it left .. It leads from start to
 -- goal if it is legal from the start and ends at the goal."
