@@ -1,1 +1,3 @@
+pub mod Agree
 pub mod Reachability
+pub mod Sets

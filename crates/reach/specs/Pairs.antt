@@ -28,10 +28,14 @@ unfoldable pub pairFault : Store → Store → ℕ
 unfolding cassettesFault
 pairFault s t = first (storeFault s) (first (storeFault t) (first (frameFault s t) (cassettesFault s t)))
 
+-- every number stands as often in the one store as in the other
+abbrev pub SameCassettes : Store → Store → Type 0
+SameCassettes s t = (c : ℕ) → count c (cassettes s) ≡ count c (cassettes t)
+
 -- "two have equal shafts, depth and cassettes if neither 8 nor 9 applies"
 pub record Comparable (s t : Store) : Type 0 where
   pub start : Accepted s
   pub goal : Accepted t
   pub shafts : s .m ≡ t .m
   pub depth : s .h ≡ t .h
-  pub cassettes : (c : ℕ) → count c (cassettes s) ≡ count c (cassettes t)
+  pub cassettes : SameCassettes s t

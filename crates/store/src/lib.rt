@@ -5,6 +5,7 @@ pub mod accept;
 pub mod byte;
 pub mod lift;
 pub mod marking;
+pub mod number;
 pub mod replay;
 
 ghost use mathlib.Core.Path.{_≡_};

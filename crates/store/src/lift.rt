@@ -44,7 +44,7 @@ pub fn judge(s: Store, from: Shaft, to: Shaft) -> Judged
 }
 
 // The store after an allowed lift between two shafts.
-fn move_between(s: Store, i: usize, j: usize) -> Store
+pub fn move_between(s: Store, i: usize, j: usize) -> Store
     requires { ⌜ Shaped s ⌝ }
     requires { ⌜ Allowed s i j ⌝ }
     ensures { λ r. ⌜ r ≡ lifted s i j ⌝ }

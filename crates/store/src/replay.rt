@@ -34,9 +34,8 @@ fn play(s: Store, list: &[u8]) -> Replayed
         store = move_top(store, from, to);
         count += 1;
     }
-    let reached = store;
     Replayed {
-        store: reached,
+        store,
         count,
         end: End::RunThrough,
     }

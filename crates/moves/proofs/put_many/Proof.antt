@@ -1,49 +1,53 @@
+-- `put_many` meets its contract. The invariant: after i turns the byte stands i times.
+use borrow.Author.Needs.{needs}
+use mathlib.Core.Path.{_≡_, refl, ap, _∙_}
+use Prim.Native.Nat.{ℕ, _+_, _≤_, _-_}
+use native.Mathlib.Omega.{arith}
+use lib.ListN.{replicate, replicate-append-replicate}
+use Rattle.moves.specs.Written.{written}
+use Rattle.moves.proofs.Wrote.{Wrote, wrote-nothing, wrote-more}
 use Rattle.moves.proofs.put_many.Statement.{statement}
 use Rattle.moves.proofs.put_many.Tie as tie
-use Rattle.moves.proofs.put_many.Reads as reads
-use Rattle.moves.proofs.put_many.Lts as lts
 
 abbrev Inv-loop : tie.InvT-loop
-Inv-loop out₀ at b k i₀ out i = ?
+Inv-loop out₀ at b k i₀ out i = (i ≤ k) × Wrote out₀ at (replicate i b) (at + i) out
 
 abbrev μ-loop : tie.MeasureT-loop
-μ-loop out₀ at b k i₀ out i = ?
+μ-loop out₀ at b k i₀ out i = k - i
 
--- src/lib.rt:20:5
 loop-holds : tie.Need-loop-holds Inv-loop μ-loop
-loop-holds c = ?
+loop-holds c = (omega arith, wrote-nothing (c .args .out .now) (c .args .at))
 
--- src/lib.rt:21:13
 add-out : tie.Need-add-out Inv-loop μ-loop
-add-out c = ?
+add-out c = search needs
 
--- src/lib.rt:21:9
 slice-write-out : tie.Need-slice-write-out Inv-loop μ-loop
-slice-write-out c = ?
+slice-write-out c = search needs
 
--- src/lib.rt:22:9
 add-i : tie.Need-add-i Inv-loop μ-loop
-add-i c = ?
+add-i c = search needs
 
--- src/lib.rt:20:5
 loop-less : tie.Need-loop-less Inv-loop μ-loop
-loop-less c = ?
+loop-less c = search needs
 
--- src/lib.rt:20:5
 loop-again : tie.Need-loop-again Inv-loop μ-loop
-loop-again c = ?
+loop-again c =
+    let l = c .before .loop in
+    let b = c .before .before .args .b in
+    (omega arith, wrote-more b (l .inv .1) (omega arith) (omega arith) (replicate-append-replicate (l .i) 1 b))
 
--- src/lib.rt:24:5
 add-result : tie.Need-add-result Inv-loop μ-loop
-add-result c = ?
+add-result c = search needs
 
--- src/lib.rt:15:1
 same-length : tie.Need-same-length Inv-loop μ-loop
-same-length c = ?
+same-length c = search needs
 
--- src/lib.rt:15:1
 returns : tie.Need-returns Inv-loop μ-loop
-returns c = ?
+returns c =
+    let l = c .before .loop in
+    let a = c .before .before .args in
+    let e : l .i ≡ a .k = omega arith in
+    (refl, l .inv .1 .bytes (omega arith) ∙ ap (λ (i : ℕ). written (a .out .now) (a .at) (replicate i (a .b))) e)
 
 pub put-many-spec : {M : Type 1} → statement M
 put-many-spec =

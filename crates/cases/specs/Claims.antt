@@ -1,0 +1,48 @@
+-- What a row of the table can claim, and what each claim means by the definitions.
+use mathlib.Core.List.{List, [], _∷_, _++_, map}
+use mathlib.Core.Path.{_≡_}
+use Prim.Native.Nat.{ℕ, _-_}
+use lib.ListN.{length, replicate}
+use Rattle.store.specs.declared.Store.{Store}
+use Rattle.store.specs.Slots.{listSpace}
+use Rattle.store.specs.Lifts.{liftNumber}
+use Rattle.store.specs.Lists.{Leads, Reachable}
+use Rattle.reach.specs.Pairs.{pairFault}
+
+-- a list with zeros after it, k numbers long
+abbrev pub padded : ℕ → List ℕ → List ℕ
+padded k l = l ++ replicate (k - length l) 0
+
+abbrev pub joined : List (List ℕ) → List ℕ
+joined [] = []
+joined (l ∷ ls) = padded 16 l ++ joined ls
+
+-- the store of depth h with these shafts, "bottom first"
+abbrev pub storeOf : ℕ → List (List ℕ) → Store
+storeOf h shafts = record {
+  m = length shafts;
+  h = h;
+  heights = padded 16 (map length shafts);
+  slots = padded 256 (joined shafts);
+}
+
+pub data Claim : Type 0 where
+  -- a lift between two shafts of a store gets a number
+  liftGets : Store → ℕ → ℕ → ℕ → Claim
+  -- the goal can be reached, and these bytes do it
+  yesBy : Store → List ℕ → Store → Claim
+  -- the goal can't be reached: 15
+  unreachable : Store → Store → Claim
+  -- so many bytes of list space suffice
+  spaceIs : Store → ℕ → Claim
+
+abbrev pub Holds : Claim → Type 0
+Holds (liftGets s a b k) = liftNumber s a b ≡ k
+Holds (yesBy s bs t) = (pairFault s t ≡ 0) × Leads s bs t
+Holds (unreachable s t) = (pairFault s t ≡ 0) × (Reachable s t → ⊥)
+Holds (spaceIs s k) = listSpace s ≡ k
+
+-- every claim of a list holds
+abbrev pub AllHold : List Claim → Type 0
+AllHold [] = Unit {0}
+AllHold (c ∷ cs) = Holds c × AllHold cs

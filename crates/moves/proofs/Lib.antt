@@ -1,0 +1,5 @@
+pub mod Backward
+pub mod Moved
+pub mod Stepping
+pub mod Writing
+pub mod Wrote

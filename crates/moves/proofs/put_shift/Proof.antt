@@ -1,0 +1,29 @@
+-- `put_shift` meets its contract: of shafts below 16 the packed byte is the lift's.
+use borrow.Author.Needs.{needs}
+use mathlib.Core.Path.{_≡_, ap, _∙_}
+use Prim.Native.Nat.{ℕ}
+use native.Mathlib.Omega.{arith}
+use lib.ListN.{replicate}
+use Rattle.store.specs.Lists.{liftByte}
+use Rattle.moves.specs.Written.{written}
+use Rattle.moves.proofs.put_shift.Statement.{statement}
+use Rattle.moves.proofs.put_shift.Tie as tie
+
+pack-requires : tie.Need-pack-requires
+pack-requires c κs = search needs
+
+put-many-requires : tie.Need-put-many-requires
+put-many-requires c κs = search needs
+
+same-length : tie.Need-same-length
+same-length c = search needs
+
+returns : tie.Need-returns
+returns c =
+    let d = c .before .before in
+    let a = d .before .before .before .before .args in
+    let e : d .before .pack .result ≡ liftByte (a .from) (a .to) = omega (arith, d .before .pack .ensures) in
+    (d .put-many .ensures .0, d .put-many .ensures .1 ∙ ap (λ (b : ℕ). written (a .out .now) (a .at) (replicate (a .k) b)) e)
+
+pub put-shift-spec : {M : Type 1} → statement M
+put-shift-spec = tie.close (tie.spec pack-requires put-many-requires same-length returns)

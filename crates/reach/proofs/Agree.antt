@@ -1,0 +1,104 @@
+-- The slot view of a store and the stack view agree: the same counts, the same lowest rows, and with two shafts the same reading.
+use mathlib.Core.List.{List, [], _∷_, _++_, append-assoc, append-nil, reverse, reverseAux, reverse-reverse}
+use mathlib.Core.Logic.{_↔_}
+use mathlib.Core.Path.{_≡_, refl, sym, ap, _∙_}
+use Prim.Native.Nat.{ℕ, zero, suc, _+_, _*_, _-_, _≤_}
+use native.Mathlib.Nat.{suc-mul}
+use native.Mathlib.Omega.{arith}
+use lib.ListN.{length, drop, length-append}
+use Rattle.stacks.specs.Run.{Within}
+use Rattle.stacks.specs.Count.{sum, count, occurrences, total, empties, lowest}
+use Rattle.stacks.specs.Reading
+use Rattle.stacks.proofs.Counts.{count-append}
+use Rattle.store.specs.declared.Store.{Store}
+use Rattle.store.specs.Slots.{depth, height, slot, upward, downward, stack, cassettesBelow, cassettes, cassetteCount, emptyCount}
+use Rattle.store.specs.Sound.{Shaped}
+use Rattle.store.proofs.Rows.{stack-length}
+use Rattle.reach.specs.Rules.{reading, floor}
+
+-- the sum of equal numbers
+sum-constant : (n k : ℕ) → sum n (λ i. k) ≡ n * k
+unfolding sum
+sum-constant zero k = omega arith
+sum-constant (suc n) k = omega (arith, sum-constant n k, suc-mul n k)
+
+module _ (s : Store) where
+  -- no stack of a shaped store passes its depth
+  pub shaped-within : Shaped s → Within (s .m) (depth s) (stack s)
+  shaped-within p x h = rw stack-length (p .heights x)
+
+  -- rows read upward are the rows read downward in reverse
+  upward-then : (x k : ℕ) (r : List ℕ) → upward s x k ++ r ≡ reverseAux (downward s x k) r
+  unfolding upward downward
+  upward-then x zero r = refl
+  upward-then x (suc k) r = append-assoc (upward s x k) (slot s x (suc k) ∷ []) r ∙ upward-then x k (slot s x (suc k) ∷ r)
+
+  pub upward-reversed : (x k : ℕ) → upward s x k ≡ reverse (downward s x k)
+  upward-reversed x k = sym (append-nil (upward s x k)) ∙ upward-then x k []
+
+  -- the reading of document 01 is the reading of the stacks
+  pub reading-agrees : reading s ≡ Reading.reading (stack s)
+  unfolding reading Reading.reading stack
+  reading-agrees = upward-then 0 (height s 0) (downward s 1 (height s 1))
+
+  -- each number stands as often among the cassettes as in the stacks
+  upward-count : (c x k : ℕ) → count c (upward s x k) ≡ count c (downward s x k)
+  unfolding upward downward count
+  upward-count c x zero = refl
+  upward-count c x (suc k) = simp count-append (omega (arith, upward-count c x k))
+
+  below-count : (c x : ℕ) → occurrences x c (stack s) ≡ count c (cassettesBelow s x)
+  unfolding occurrences cassettesBelow stack
+  below-count c zero = refl
+  below-count c (suc x) = simp count-append (omega (arith, below-count c x, upward-count c x (height s x)))
+
+  pub occurrences-agree : (c : ℕ) → occurrences (s .m) c (stack s) ≡ count c (cassettes s)
+  unfolding cassettes
+  occurrences-agree c = below-count c (s .m)
+
+  -- n and e are the numbers of cassettes and of empty slots of the stacks
+  upward-length : (x k : ℕ) → length (upward s x k) ≡ k
+  unfolding upward
+  upward-length x zero = refl
+  upward-length x (suc k) = simp length-append (omega (arith, upward-length x k))
+
+  below-total : (x : ℕ) → total x (stack s) ≡ length (cassettesBelow s x)
+  unfolding total cassettesBelow
+  below-total zero = refl
+  below-total (suc x) = simp length-append (omega (arith, below-total x, upward-length x (height s x), stack-length s x))
+
+  pub total-agrees : total (s .m) (stack s) ≡ cassetteCount s
+  unfolding cassetteCount cassettes
+  total-agrees = below-total (s .m)
+
+  pub empties-agree : empties (s .m) (depth s) (stack s) ≡ emptyCount s
+  unfolding empties emptyCount
+  empties-agree = rw (sum-constant (s .m) (s .h), total-agrees)
+
+  -- the lowest k of a stack are rows 1 to k
+  rows-under : (x j n k : ℕ) → n ≡ j + k → drop j (downward s x n) ≡ downward s x k
+  unfolding downward
+  rows-under x zero n k e = let e′ : n ≡ k = omega arith in rw e′
+  rows-under x (suc j) zero k e = absurd (omega arith)
+  rows-under x (suc j) (suc n) k e = rows-under x j n k (omega arith)
+
+  pub lowest-rows : (x k : ℕ) → k ≤ height s x → lowest k (stack s x) ≡ downward s x k
+  unfolding lowest stack
+  lowest-rows x k h = rows-under x (length (stack s x) - k) (height s x) k (omega (arith, stack-length s x))
+
+  -- a floor is what the empty slots of the store leave of a shaft's depth
+  pub floor-agrees : (x : ℕ) → depth s x - empties (s .m) (depth s) (stack s) ≡ floor s x
+  unfolding floor
+  floor-agrees x = rw empties-agree
+
+  -- nothing stands in the shafts beyond m
+  pub none-beyond : Shaped s → (x : ℕ) → s .m ≤ x → stack s x ≡ []
+  unfolding stack downward
+  none-beyond p x h = rw (p .none-beyond x h)
+
+-- rows 1 to k of two stores agree exactly if the lowest k of the stacks do
+pub rows-agree : (s t : Store) (x k : ℕ) → k ≤ height s x → k ≤ height t x
+    → (upward s x k ≡ upward t x k) ↔ (lowest k (stack s x) ≡ lowest k (stack t x))
+rows-agree s t x k h i =
+    simp (lowest-rows, upward-reversed)
+    (λ e. sym (reverse-reverse (downward s x k)) ∙ ap reverse e ∙ reverse-reverse (downward t x k), λ e. ap reverse e)

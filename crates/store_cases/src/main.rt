@@ -1,0 +1,112 @@
+// Runs stores, lifts and replays beyond the proved cases and prints the number that each gets (0: nothing refused). Held to the file stdout.
+use libc::STDOUT_FILENO;
+use store::Shaft;
+use store::Store;
+use store::number::answer_number;
+use store::number::end_number;
+use store::number::verdict_number;
+
+fn say(what: &[u8], number: u8) {
+    io::write_all(STDOUT_FILENO, what);
+    io::print_decimal(STDOUT_FILENO, number as u64);
+    io::write_all(STDOUT_FILENO, b"\n");
+}
+
+fn empty(m: u8, h: u8) -> Store {
+    Store {
+        m,
+        h,
+        heights: [0u8; 16],
+        slots: [0u8; 256],
+    }
+}
+
+fn check(what: &[u8], s: Store) {
+    let checked = s.check();
+    let verdict = checked.verdict;
+    say(what, verdict_number(verdict));
+}
+
+// m 3, h 2: [1 2] [] [3]
+fn example() -> Store {
+    let mut s = empty(3, 2);
+    s.heights[0] = 2;
+    s.heights[2] = 1;
+    s.slots[0] = 1;
+    s.slots[1] = 2;
+    s.slots[32] = 3;
+    s
+}
+
+// m 3, h 1: [1] [2] []
+fn singles() -> Store {
+    let mut s = empty(3, 1);
+    s.heights[0] = 1;
+    s.heights[1] = 1;
+    s.slots[0] = 1;
+    s.slots[16] = 2;
+    s
+}
+
+fn check_cases() {
+    check(b"empty store of m 1, h 1: ", empty(1, 1));
+    check(b"m 0: ", empty(0, 1));
+    check(b"m 200: ", empty(200, 1));
+    check(b"h 0: ", empty(1, 0));
+    check(b"h 17: ", empty(1, 17));
+    check(b"the example: ", example());
+    let mut s = example();
+    s.slots[2] = 9;
+    check(b"a slot above the height: ", s);
+    s = example();
+    s.slots[48] = 9;
+    check(b"a slot past m: ", s);
+    s = example();
+    s.heights[3] = 1;
+    check(b"a height past m: ", s);
+    s = example();
+    s.heights[1] = 20;
+    check(b"a height of 20: ", s);
+    s = example();
+    s.slots[0] = 0;
+    check(b"a cassette 0: ", s);
+    s = example();
+    s.slots[32] = 1;
+    check(b"cassette 1 twice: ", s);
+}
+
+fn lift(what: &[u8], s: Store, from: u8, to: u8) {
+    let lifted = s.lift(Shaft(from), Shaft(to));
+    let answer = lifted.answer;
+    say(what, answer_number(answer));
+}
+
+fn lift_cases() {
+    lift(b"lift 0>1: ", example(), 0, 1);
+    lift(b"lift 0>0: ", example(), 0, 0);
+    lift(b"lift 0>3: ", example(), 0, 3);
+    lift(b"lift 200>1: ", example(), 200, 1);
+    lift(b"lift 1>0, empty to full: ", example(), 1, 0);
+    lift(b"lift 2>0, to a full shaft: ", example(), 2, 0);
+    lift(b"lift in a store of m 0: ", empty(0, 1), 0, 1);
+}
+
+fn replay(what: &[u8], s: Store, list: &[u8]) {
+    let replayed = s.replay(list);
+    let end = replayed.end;
+    say(what, end_number(end));
+    io::write_all(STDOUT_FILENO, b"  lifts done: ");
+    io::print_decimal(STDOUT_FILENO, replayed.count as u64);
+    let reached = replayed.store;
+    say(b"\n  shaft 0 row 1: ", reached.slots[0]);
+    say(b"  shaft 1 row 1: ", reached.slots[16]);
+}
+
+fn main() {
+    check_cases();
+    lift_cases();
+    replay(b"02 10 21 on [1] [2] []: ", singles(), b"\x02\x10\x21");
+    replay(b"02 21 00 on [1] [2] []: ", singles(), b"\x02\x21\x00");
+    replay(b"an empty list on [1] [2] []: ", singles(), b"");
+    replay(b"02 on a store of m 200: ", empty(200, 1), b"\x02");
+}
