@@ -7,9 +7,16 @@ ghost use Rattle.stacks.specs.Moves.{exchange, flip};
 ghost use Rattle.store.specs.Lists.{liftByte, bytesOf, backward};
 ghost use Rattle.moves.specs.Written.{written};
 use store::Shaft;
+use store::Store;
 use store::byte::entered_of;
 use store::byte::left_of;
 use store::byte::pack;
+
+// A plan under way: the store that the lifts written so far lead to, and their count.
+pub struct Plan {
+    pub store: Store,
+    pub count: usize,
+}
 
 // Writes a byte k times from a place on, and gives the place after them.
 pub fn put_many(out: &mut [u8], at: usize, b: u8, k: usize) -> usize

@@ -1,0 +1,10 @@
+pub mod PlaceCells
+pub mod PlaceFound
+pub mod PlaceRight
+pub mod SelectCount
+pub mod SelectDone
+pub mod SelectTurns
+pub mod SwapCells
+pub mod SwapLeads
+pub mod SwapStacks
+pub mod SwapSteps

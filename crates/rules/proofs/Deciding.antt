@@ -1,0 +1,18 @@
+-- What a test that says whether P holds shows: where it says so, where it does not, and as a test of a Q that is as much as P.
+use mathlib.Core.Bool.{Bool, true, false}
+use mathlib.Core.Path.{_≡_, sym}
+use Prim.Native.Nat.{ℕ}
+use native.Mathlib.Omega.{arith}
+use Rattle.rules.specs.Promises.{Decides}
+
+true-false : true ≡ false → ⊥
+true-false e = let z : _≡_ {A = ℕ} 0 1 = cc in omega arith
+
+pub holds : {P : Type 0} → P → Decides true P
+holds p = record { so = λ e. p; not-so = λ e. absurd (true-false e) }
+
+pub fails : {P : Type 0} → (P → ⊥) → Decides false P
+fails n = record { so = λ e. absurd (true-false (sym e)); not-so = λ e. n }
+
+pub decides-as : {r : Bool} {P Q : Type 0} → (P → Q) → (Q → P) → Decides r P → Decides r Q
+decides-as f g d = record { so = λ e. f (d .so e); not-so = λ e q. d .not-so e (g q) }

@@ -1,0 +1,110 @@
+-- The rule by the number of shafts: with one or two the readings agree, with three or more the floors; and how many cassettes shafts hold.
+use mathlib.Core.List.{reverse, reverseAux, reverse-reverse}
+use mathlib.Core.Logic.{_↔_}
+use mathlib.Core.Path.{_≡_, refl, sym, ap, _∙_}
+use Prim.Native.Nat.{ℕ, zero, suc, _+_, _-_, _*_, _≤_, _<_}
+use native.Mathlib.Nat.{suc-mul}
+use native.Mathlib.Omega.{arith}
+use lib.ListN.{length, length-append, length-reverse}
+use Rattle.stacks.specs.Count.{total}
+use Rattle.stacks.specs.Reading
+use Rattle.stacks.proofs.Counts.{same-length}
+use Rattle.store.specs.declared.Store.{Store}
+use Rattle.store.specs.Slots.{height, upward, downward, stack, cassettesBelow, cassettes, cassetteCount, emptyCount}
+use Rattle.store.specs.Sound.{Shaped, Sound}
+use Rattle.store.proofs.Acceptance.{accepted-sound}
+use Rattle.store.proofs.Rows.{stack-length}
+use Rattle.store.proofs.Views.{same-stacks}
+use Rattle.reach.specs.Pairs.{Comparable}
+use Rattle.reach.specs.Rules.{reading, floor, RuleFor, Rule}
+use Rattle.reach.proofs.Agree.{upward-reversed, reading-agrees, total-agrees, none-beyond}
+
+module _ (s : Store) (p : Shaped s) where
+  -- one or two shafts hold what shafts 0 and 1 hold
+  two-hold : 0 < s .m → s .m ≤ 2 → cassetteCount s ≡ height s 0 + height s 1
+  unfolding total
+  two-hold = go (s .m) refl
+    where
+      go : (m : ℕ) → s .m ≡ m → 0 < m → m ≤ 2 → cassetteCount s ≡ height s 0 + height s 1
+      go zero e h i = absurd (omega arith)
+      go (suc zero) e h i =
+          omega (arith, total-agrees s, ap (λ m. total m (stack s)) e, stack-length s 0, p .none-beyond 1 (omega arith))
+      go (suc (suc zero)) e h i =
+          omega (arith, total-agrees s, ap (λ m. total m (stack s)) e, stack-length s 0, stack-length s 1)
+      go (suc (suc (suc m))) e h i = absurd (omega arith)
+
+  shaft-length : (x : ℕ) → length (upward s x (height s x)) ≡ height s x
+  unfolding stack
+  shaft-length x = ap length (upward-reversed s x (height s x)) ∙ length-reverse (downward s x (height s x)) ∙ stack-length s x
+
+  -- no store holds more than its slots
+  below-most : (x : ℕ) → length (cassettesBelow s x) ≤ x * s .h
+  unfolding cassettesBelow
+  below-most zero = omega arith
+  below-most (suc x) = simp length-append (omega (arith, below-most x, shaft-length x, p .heights x, suc-mul x (s .h)))
+
+  pub count-most : cassetteCount s ≤ s .m * s .h
+  unfolding cassetteCount cassettes
+  count-most = below-most (s .m)
+
+  -- with one shaft, the reading is that shaft's
+  one-read : s .m ≡ 1 → reading s ≡ reverse (stack s 0)
+  unfolding Reading.reading
+  one-read e = reading-agrees s ∙ ap (reverseAux (stack s 0)) (none-beyond s p 1 (omega arith))
+
+module _ (s t : Store) (p : Comparable s t) where
+  start : Sound s
+  start = accepted-sound s (p .start)
+
+  goal : Sound t
+  goal = accepted-sound t (p .goal)
+
+  same-count : cassetteCount s ≡ cassetteCount t
+  unfolding cassetteCount
+  same-count = same-length (cassettes s) (cassettes t) (p .cassettes)
+
+  -- one or two shafts of both stores hold as many cassettes
+  pub both-hold : (n : ℕ) → n ≡ cassetteCount s → s .m ≤ 2 → (n ≡ height s 0 + height s 1) × (n ≡ height t 0 + height t 1)
+  both-hold n e h = (
+    e ∙ two-hold s (start .shaped) (start .some-shaft) h,
+    e ∙ same-count ∙ two-hold t (goal .shaped) (goal .some-shaft) (rw (p .shafts) at h),
+  )
+
+  -- stores of one shaft that read the same are the same
+  one-same : s .m ≡ 1 → reading s ≡ reading t → s ≡ t
+  one-same e r = same-stacks s t (start .shaped) (goal .shaped) (p .shafts) (p .depth) go
+    where
+      f : t .m ≡ 1
+      f = sym (p .shafts) ∙ e
+
+      g : reverse (stack s 0) ≡ reverse (stack t 0)
+      g = sym (one-read s (start .shaped) e) ∙ r ∙ one-read t (goal .shaped) f
+
+      go : (x : ℕ) → stack s x ≡ stack t x
+      go zero = sym (reverse-reverse (stack s 0)) ∙ ap reverse g ∙ reverse-reverse (stack t 0)
+      go (suc x) = none-beyond s (start .shaped) (suc x) (omega arith) ∙ sym (none-beyond t (goal .shaped) (suc x) (omega arith))
+
+  -- "m = 1: only the start itself. m = 2: .. both stores read the same."
+  pub few-rule : s .m ≤ 2 → (reading s ≡ reading t) ↔ Rule s t
+  few-rule = go (s .m) refl
+    where
+      go : (m : ℕ) → s .m ≡ m → m ≤ 2 → (reading s ≡ reading t) ↔ RuleFor m s t
+      go zero e h = absurd (omega (arith, start .some-shaft))
+      go (suc zero) e h = (one-same e, λ r. ap reading r)
+      go (suc (suc zero)) e h = (λ r. r, λ r. r)
+      go (suc (suc (suc m))) e h = absurd (omega arith)
+
+  -- "m ≥ 3: .. these rows agree.", the rows counted as the code counts them
+  pub more-rule : (n m h k : ℕ) → n ≡ cassetteCount s → m ≡ s .m → h ≡ s .h → k ≡ h - (m * h - n) → 2 < m
+      → ((x : ℕ) → x < m → upward s x k ≡ upward t x k) ↔ Rule s t
+  unfolding floor emptyCount
+  more-rule n m h k a b c d i = go (s .m) refl (rw b at i)
+    where
+      rows : (x : ℕ) → floor s x ≡ k
+      rows x = sym (d ∙ rw (a, b, c))
+
+      go : (j : ℕ) → s .m ≡ j → 2 < j → ((x : ℕ) → x < m → upward s x k ≡ upward t x k) ↔ RuleFor j s t
+      go zero e g = absurd (omega arith)
+      go (suc zero) e g = absurd (omega arith)
+      go (suc (suc zero)) e g = absurd (omega arith)
+      go (suc (suc (suc j))) e g = (λ r x l. rw (rows x) (r x (omega arith)), λ r x l. rw (rows x) at (r x (omega arith)))
