@@ -1,0 +1,74 @@
+// The list maker (document 01, "Which goals can be reached", "Which comes first"): a list of lifts that leads from start to goal.
+pub mod make;
+pub mod number;
+pub mod same;
+
+use make::make;
+use rules::pairs::Pair;
+use rules::pairs::compare;
+use rules::rule::rule_holds;
+use same::same_store;
+use store::Store;
+use store::wide;
+ghost use mathlib.Core.Path.{_≡_};
+ghost use Prim.Native.Nat.{_+_, _*_, _≤_};
+ghost use Rattle.planner.specs.Promises.{PlanIs};
+
+pub enum PlanAnswer {
+    Listed,
+    Refused(Pair),
+    LittleSpace,
+    Unreachable,
+}
+
+// The answer, and the count of lifts in the list, 0 where there is none.
+pub struct Planned {
+    pub answer: PlanAnswer,
+    pub count: usize,
+}
+
+// "The list space needed is 4hn + 8n bytes"
+fn list_space(h: usize, n: usize) -> usize
+    requires { ⌜ (h ≤ 16) × (n ≤ 255) ⌝ }
+    ensures { λ r. ⌜ r ≡ 4 * h * n + 8 * n ⌝ }
+{
+    4 * h * n + 8 * n
+}
+
+// Writes a list of lifts that leads from start to goal into the lent bytes, or refuses and writes nothing.
+pub fn make_list(start: Store, goal: Store, out: &mut [u8]) -> Planned
+    ensures { λ r. ⌜ PlanIs start goal (now (out .entry)) (now (out .exit)) r ⌝ }
+{
+    let compared = compare(start, goal);
+    let pair = compared.pair;
+    let n = compared.n;
+    if let Pair::Comparable = pair {
+        if out.len() < list_space(wide(start.h), n) {
+            return Planned {
+                answer: PlanAnswer::LittleSpace,
+                count: 0,
+            };
+        }
+        if !rule_holds(start, goal, n) {
+            return Planned {
+                answer: PlanAnswer::Unreachable,
+                count: 0,
+            };
+        }
+        if same_store(start, goal) {
+            return Planned {
+                answer: PlanAnswer::Listed,
+                count: 0,
+            };
+        }
+        let count = make(start, goal, n, out);
+        return Planned {
+            answer: PlanAnswer::Listed,
+            count,
+        };
+    }
+    Planned {
+        answer: PlanAnswer::Refused(pair),
+        count: 0,
+    }
+}

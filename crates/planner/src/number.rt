@@ -1,0 +1,16 @@
+// The number of document 01 for each answer of the list maker, 0 where a list was made.
+use crate::PlanAnswer;
+use rules::number::pair_number;
+ghost use mathlib.Core.Path.{_≡_};
+ghost use Rattle.planner.specs.Numbers.{planNumber};
+
+pub fn plan_number(a: PlanAnswer) -> u8
+    ensures { λ r. ⌜ r ≡ planNumber a ⌝ }
+{
+    match a {
+        PlanAnswer::Listed => 0,
+        PlanAnswer::Refused(p) => pair_number(p),
+        PlanAnswer::LittleSpace => 10,
+        PlanAnswer::Unreachable => 15,
+    }
+}
