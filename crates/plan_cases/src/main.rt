@@ -1,0 +1,197 @@
+// Plans cases of document 01, "Filled stores to try", that are not among the proved ones, and prints for each the number, the count of
+// lifts and whether a replay of the list ends at the goal. Held to the file stdout.
+use libc::STDOUT_FILENO;
+use planner::make_list;
+use planner::number::plan_number;
+use planner::same::same_store;
+use rules::number::reach_number;
+use rules::reachable;
+use store::Store;
+use store::number::end_number;
+
+fn say(what: &[u8], number: u64) {
+    io::write_all(STDOUT_FILENO, what);
+    io::print_decimal(STDOUT_FILENO, number);
+}
+
+fn empty(m: u8, h: u8) -> Store {
+    Store {
+        m,
+        h,
+        heights: [0u8; 16],
+        slots: [0u8; 256],
+    }
+}
+
+// One cassette more on top of a shaft, where there is room in the arrays.
+fn with(s: Store, x: usize, c: u8) -> Store {
+    if 16 <= x {
+        return s;
+    }
+    let top = s.heights[x];
+    if 16 <= top {
+        return s;
+    }
+    let mut t = s;
+    t.slots[16 * x + store::wide(top)] = c;
+    t.heights[x] = top + 1;
+    t
+}
+
+// Six orders of the cassettes 1 to 8.
+const ORDERS: [u8; 48] = [
+    1,
+    2,
+    3,
+    4,
+    5,
+    6,
+    7,
+    8,
+    2,
+    4,
+    6,
+    8,
+    1,
+    3,
+    5,
+    7,
+    4,
+    8,
+    3,
+    7,
+    2,
+    6,
+    1,
+    5,
+    5,
+    1,
+    6,
+    2,
+    7,
+    3,
+    8,
+    4,
+    7,
+    5,
+    3,
+    1,
+    8,
+    6,
+    4,
+    2,
+    8,
+    7,
+    6,
+    5,
+    4,
+    3,
+    2,
+    1,
+];
+
+// m 3, h 4, n 8: the cassettes dealt out to the shafts in turn, in the order that k chooses.
+fn dealt(k: usize) -> Store {
+    let first = 8 * (k % 6);
+    let mut s = empty(3, 4);
+    let mut i: usize = 0;
+    while i < 8 {
+        s = with(s, (i + k % 6) % 3, ORDERS[first + i]);
+        i += 1;
+    }
+    s
+}
+
+// Whether a replay of the first count bytes leads from start to goal.
+fn led(start: Store, goal: Store, list: &[u8], count: usize) -> bool {
+    if list.len() < count {
+        return false;
+    }
+    let replayed = start.replay(&list[..count]);
+    let end = replayed.end;
+    let reached = replayed.store;
+    if end_number(end) != 0 {
+        return false;
+    }
+    if reached.m != goal.m {
+        return false;
+    }
+    if reached.h != goal.h {
+        return false;
+    }
+    same_store(reached, goal)
+}
+
+fn show(what: &[u8], start: Store, goal: Store, list: &mut [u8]) {
+    let planned = make_list(start, goal, list);
+    let answer = planned.answer;
+    let count = planned.count;
+    io::write_all(STDOUT_FILENO, what);
+    say(b": yes or no ", reach_number(reachable(start, goal)) as u64);
+    say(b", plan ", plan_number(answer) as u64);
+    say(b", lifts ", count as u64);
+    if led(start, goal, list, count) {
+        io::write_all(STDOUT_FILENO, b", replay ends at the goal\n");
+    } else {
+        io::write_all(STDOUT_FILENO, b"\n");
+    }
+}
+
+// m 16, h 16 with 255 cassettes, as full as a store gets: shaft by shaft, counted from a number on.
+fn nearly_full(from: usize) -> Store {
+    let mut s = empty(16, 16);
+    let mut i: usize = 0;
+    while i < 255 {
+        s = with(s, i / 16, ((i + from % 255) % 255 + 1) as u8);
+        i += 1;
+    }
+    s
+}
+
+fn small_cases() {
+    let mut list = [0u8; 192];
+    let mut k: usize = 0;
+    while k < 6 {
+        show(
+            b"m 3, h 4, n 8, dealt another way",
+            dealt(k),
+            dealt(k + 1),
+            &mut list,
+        );
+        k += 1;
+    }
+    show(
+        b"list space of 4hn + 8n bytes",
+        dealt(0),
+        dealt(1),
+        &mut list,
+    );
+    show(b"start equal to goal", dealt(0), dealt(0), &mut list);
+    show(
+        b"other cassettes",
+        with(empty(3, 3), 0, 1),
+        with(empty(3, 3), 0, 2),
+        &mut list,
+    );
+    show(b"another m", empty(3, 3), empty(4, 3), &mut list);
+    show(b"a store of m 0", empty(0, 3), empty(3, 3), &mut list);
+}
+
+fn main() {
+    small_cases();
+    let mut less = [0u8; 191];
+    show(b"one byte less", dealt(0), dealt(1), &mut less);
+    let mut list = [0u8; 18360];
+    show(
+        b"m 16, h 16, n 255, to itself",
+        nearly_full(0),
+        nearly_full(0),
+        &mut list,
+    );
+    show(
+        b"m 16, h 16, n 255, all numbers one place on",
+        nearly_full(0),
+        nearly_full(1),
+        &mut list,
+    );
+}
