@@ -8,6 +8,8 @@ use Rattle.store.specs.Slots.{listSpace}
 use Rattle.store.specs.Lifts.{liftNumber}
 use Rattle.store.specs.Lists.{Leads, Reachable}
 use Rattle.reach.specs.Pairs.{pairFault}
+use Rattle.image.specs.Image.{imageOf}
+use Rattle.image.specs.Reading.{refused, readImage}
 
 -- a list with zeros after it, k numbers long
 abbrev pub padded : ℕ → List ℕ → List ℕ
@@ -35,12 +37,18 @@ pub data Claim : Type 0 where
   unreachable : Store → Store → Claim
   -- so many bytes of list space suffice
   spaceIs : Store → ℕ → Claim
+  -- an image is refused with a number
+  readingGets : List ℕ → ℕ → Claim
+  -- an image is read as a store, which is written as that image
+  imageIs : List ℕ → Store → Claim
 
 abbrev pub Holds : Claim → Type 0
 Holds (liftGets s a b k) = liftNumber s a b ≡ k
 Holds (yesBy s bs t) = (pairFault s t ≡ 0) × Leads s bs t
 Holds (unreachable s t) = (pairFault s t ≡ 0) × (Reachable s t → ⊥)
 Holds (spaceIs s k) = listSpace s ≡ k
+Holds (readingGets bytes k) = readImage bytes ≡ refused k
+Holds (imageIs bytes s) = (readImage bytes ≡ record { store = s; number = 0 }) × (imageOf s ≡ bytes)
 
 -- every claim of a list holds
 abbrev pub AllHold : List Claim → Type 0

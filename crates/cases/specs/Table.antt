@@ -1,7 +1,8 @@
 -- The cases that document 01 marks to be proved, "Filled stores to try", one row for each claim.
 use mathlib.Core.List.{List, [], _∷_}
+use Prim.Native.Nat.{ℕ}
 use Rattle.store.specs.declared.Store.{Store}
-use Rattle.cases.specs.Claims.{Claim, liftGets, yesBy, unreachable, spaceIs, storeOf}
+use Rattle.cases.specs.Claims.{Claim, liftGets, yesBy, unreachable, spaceIs, readingGets, imageIs, storeOf}
 
 -- "m 3, h 3, no cassette"
 abbrev pub bare : Store
@@ -23,6 +24,9 @@ nineBottomChanged = storeOf 4 ((2 ∷ 4 ∷ 5 ∷ 6 ∷ []) ∷ (1 ∷ 7 ∷ 8 �
 
 abbrev pub nineBottomEqual : Store
 nineBottomEqual = storeOf 4 ((1 ∷ 9 ∷ []) ∷ (2 ∷ 6 ∷ 5 ∷ 4 ∷ []) ∷ (3 ∷ 8 ∷ 7 ∷ []) ∷ [])
+
+abbrev pub nineList : List ℕ
+nineList = 0x12 ∷ 0x12 ∷ 0x01 ∷ 0x01 ∷ 0x20 ∷ 0x20 ∷ 0x21 ∷ 0x02 ∷ 0x02 ∷ 0x02 ∷ 0x10 ∷ 0x21 ∷ []
 
 -- "m 1, h 2, [1 2]", and "[2 1]"
 abbrev pub one : Store
@@ -48,6 +52,10 @@ singles = storeOf 1 ((1 ∷ []) ∷ (2 ∷ []) ∷ [] ∷ [])
 abbrev pub singlesExchanged : Store
 singlesExchanged = storeOf 1 ((2 ∷ []) ∷ (1 ∷ []) ∷ [] ∷ [])
 
+-- "`02 11 00 81 00 20 60` is m = 3, h = 2, shafts [1 2] [] [3], bottom first"
+abbrev pub example : Store
+example = storeOf 2 ((1 ∷ 2 ∷ []) ∷ [] ∷ (3 ∷ []) ∷ [])
+
 abbrev pub table : List Claim
 table =
     yesBy bare [] bare
@@ -60,7 +68,12 @@ table =
     ∷ yesBy full [] full
     ∷ unreachable full fullExchanged
     ∷ unreachable nine nineBottomChanged
-    ∷ yesBy nine (0x12 ∷ 0x12 ∷ 0x01 ∷ 0x01 ∷ 0x20 ∷ 0x20 ∷ 0x21 ∷ 0x02 ∷ 0x02 ∷ 0x02 ∷ 0x10 ∷ 0x21 ∷ []) nineBottomEqual
+    ∷ yesBy nine nineList nineBottomEqual
     -- "A lift from an empty shaft to a full one: 13."
     ∷ liftGets (storeOf 1 ([] ∷ (1 ∷ []) ∷ [])) 0 1 13
+    -- "Empty image: 2. The example with last byte 61: 7; without it: 2."
+    ∷ readingGets [] 2
+    ∷ imageIs (0x02 ∷ 0x11 ∷ 0x00 ∷ 0x81 ∷ 0x00 ∷ 0x20 ∷ 0x60 ∷ []) example
+    ∷ readingGets (0x02 ∷ 0x11 ∷ 0x00 ∷ 0x81 ∷ 0x00 ∷ 0x20 ∷ 0x61 ∷ []) 7
+    ∷ readingGets (0x02 ∷ 0x11 ∷ 0x00 ∷ 0x81 ∷ 0x00 ∷ 0x20 ∷ []) 2
     ∷ []

@@ -1,0 +1,55 @@
+-- The round trips, carried to the two functions by their contracts: what `write` left is read by `read` as the same store, and what `read` accepted
+-- is written by `write` as the same bytes.
+use mathlib.Core.Bool.{Bool}
+use mathlib.Core.List.{List, _++_}
+use mathlib.Core.Path.{_≡_, refl, sym, ap, _∙_}
+use Prim.Native.Nat.{ℕ, zero, suc, _≤_, _<_}
+use lib.ListN.{length, getD, take, drop}
+use lib.Seq.{take-at}
+use Rattle.bits.specs.Fields.{bytesOf}
+use Rattle.store.specs.declared.Store.{Store}
+use Rattle.store.specs.Accept.{storeFault}
+use Rattle.store.proofs.Faulted.{first-none}
+use Rattle.image.specs.declared.Read.{Read}
+use Rattle.image.specs.declared.Written.{Written}
+use Rattle.image.specs.Image.{imageLength, imageOf}
+use Rattle.image.specs.Numbers.{readNumber, writeNumber}
+use Rattle.image.specs.Promises.{ReadIs}
+use Rattle.image.specs.Reading.{Reading, readImage}
+use Rattle.image.specs.Writing.{writeRefusal, bytesAfter, countAfter, WriteIs}
+use Rattle.image.proofs.Nexts.{accepted}
+use Rattle.image.proofs.Outputs.{not-refused}
+use Rattle.image.proofs.RoundTrip.{written-read, read-written}
+
+length-bytes : (k : ℕ) (l : List Bool) → length (bytesOf k l) ≡ k
+unfolding bytesOf
+length-bytes zero l = refl
+length-bytes (suc k) l = ap suc (length-bytes k (drop 8 l))
+
+module _ (s : Store) (out next : List ℕ) (w : Written) (p : WriteIs s out next w) where
+  -- the first bytes are the image
+  image-first : writeRefusal s (length out) ≡ 0 → take (w .count) next ≡ imageOf s
+  unfolding imageOf
+  image-first e =
+      let n : w .count ≡ imageLength s = p .count ∙ ap (λ (k : ℕ). countAfter k s) e in
+      let b : next ≡ imageOf s ++ drop (imageLength s) out = p .bytes ∙ ap (λ (k : ℕ). bytesAfter k s out) e in
+      ap (λ (l : List ℕ). take (w .count) l) b
+      ∙ take-at (imageOf s) (drop (imageLength s) out) (w .count) (length-bytes (imageLength s) _ ∙ sym n)
+
+  -- a store that was written is read as that store
+  pub written-then-read : (r : Read) → writeNumber (w .answer) ≡ 0 → ((i : ℕ) → getD (s .slots) i 0 < 256) → ReadIs (readImage (take (w .count) next)) r
+      → (r .store ≡ s) × (readNumber (r .answer) ≡ 0)
+  unfolding writeRefusal
+  written-then-read r z small q =
+      let e : writeRefusal s (length out) ≡ 0 = sym (p .answer) ∙ z in
+      let f : readImage (take (w .count) next) ≡ accepted s = ap readImage (image-first e) ∙ written-read s (first-none (storeFault s) _ e .0) small in
+      (q .store ∙ ap (λ (o : Reading). o .store) f, q .answer ∙ ap (λ (o : Reading). o .number) f)
+
+-- an image that was accepted is written as the same bytes
+pub read-then-written : (bytes out next : List ℕ) (r : Read) (w : Written) → ((i : ℕ) → getD bytes i 0 < 256) → ReadIs (readImage bytes) r
+    → readNumber (r .answer) ≡ 0 → imageLength (r .store) ≤ length out → WriteIs (r .store) out next w → (writeNumber (w .answer) ≡ 0) × (take (w .count) next ≡ bytes)
+read-then-written bytes out next r w small q z room p =
+    let f : readImage bytes ≡ accepted (r .store) = λ i. record { store = sym (q .store) i; number = (sym (q .answer) ∙ z) i } in
+    let a = read-written bytes (r .store) small f in
+    let e : writeRefusal (r .store) (length out) ≡ 0 = not-refused (r .store) out (a .0) room in
+    (p .answer ∙ e, image-first (r .store) out next w p e ∙ a .1)

@@ -1,0 +1,94 @@
+-- The first p places of an array, with zeros after them: how a store looks while an image is read or written.
+use mathlib.Core.List.{List, [], _∷_, _++_, append-nil}
+use mathlib.Core.Path.{_≡_, refl, sym, ap, _∙_}
+use Prim.Native.Nat.{ℕ, zero, suc, _+_, _-_, _*_, _≤_, _<_}
+use native.Mathlib.Nat.{add-suc, add-zero}
+use native.Mathlib.Omega.{arith}
+use lib.ListN.{length, getD, take, set, replicate, length-append, length-replicate, length-set, List·getD-append}
+use lib.Seq.{take-suc, take-all, take-take, take-append-le, take-set-le, length-take-le, set-at, append-snoc, getD-append-add, getD-take, getD-set-same}
+use Rattle.store.specs.declared.Store.{Store}
+use Rattle.store.specs.Slots.{upward}
+
+abbrev pub cutAt : ℕ → ℕ → List ℕ → List ℕ
+cutAt n p l = take p l ++ replicate (n - p) 0
+
+zeros : (n i : ℕ) → _≡_ {A = ℕ} (getD (replicate n 0) i 0) 0
+zeros zero i = refl
+zeros (suc n) zero = refl
+zeros (suc n) (suc i) = zeros n i
+
+module _ (n : ℕ) (l : List ℕ) (sized : length l ≡ n) where
+  -- a place before the cut, and one after it
+  pub cut-below : (p i : ℕ) → p ≤ n → i < p → getD (cutAt n p l) i 0 ≡ getD l i 0
+  cut-below p i h k =
+      List·getD-append (take p l) (replicate (n - p) 0) 0 i (rw (length-take-le p l (omega arith)) k) ∙ getD-take p l i 0 k
+
+  pub cut-beyond : (p i : ℕ) → p ≤ n → p ≤ i → getD (cutAt n p l) i 0 ≡ 0
+  cut-beyond p i h k =
+      let e : length (take p l) + (i - p) ≡ i = omega (arith, length-take-le p l (omega arith)) in
+      ap (λ (j : ℕ). getD (cutAt n p l) j 0) (sym e) ∙ getD-append-add (take p l) (replicate (n - p) 0) (i - p) 0 ∙ zeros (n - p) (i - p)
+
+  -- the cut one place further
+  pub cut-set : (p : ℕ) → p < n → set (cutAt n p l) p (getD l p 0) ≡ cutAt n (suc p) l
+  cut-set p h =
+      let e : n - p ≡ suc (n - suc p) = omega arith in
+      ap (λ (k : ℕ). set (take p l ++ replicate k 0) p (getD l p 0)) e
+      ∙ set-at (take p l) 0 (replicate (n - suc p) 0) (getD l p 0) p (length-take-le p l (omega arith))
+      ∙ sym (append-snoc (take p l) (getD l p 0) (replicate (n - suc p) 0))
+      ∙ ap (λ (k : List ℕ). k ++ replicate (n - suc p) 0) (sym (take-suc l p 0 (omega arith)))
+
+  cut-one : (p : ℕ) → p < n → getD l p 0 ≡ 0 → cutAt n p l ≡ cutAt n (suc p) l
+  cut-one p h z =
+      let e : n - p ≡ suc (n - suc p) = omega arith in
+      ap (λ (k : ℕ). take p l ++ replicate k 0) e
+      ∙ sym (append-snoc (take p l) 0 (replicate (n - suc p) 0))
+      ∙ ap (λ (k : List ℕ). k ++ replicate (n - suc p) 0) (ap (λ (v : ℕ). take p l ++ (v ∷ [])) (sym z) ∙ sym (take-suc l p 0 (omega arith)))
+
+  -- the cut may move over zeros
+  pub cut-over : (p d : ℕ) → p + d ≤ n → ((i : ℕ) → p ≤ i → i < p + d → getD l i 0 ≡ 0) → cutAt n p l ≡ cutAt n (p + d) l
+  cut-over p zero h z = ap (λ (k : ℕ). cutAt n k l) (sym (add-zero p))
+  cut-over p (suc d) h z =
+      cut-over p d (omega arith) (λ i a b. z i a (omega arith))
+      ∙ cut-one (p + d) (omega arith) (z (p + d) (omega arith) (omega arith))
+      ∙ ap (λ (k : ℕ). cutAt n k l) (sym (add-suc p d))
+
+  pub cut-all : cutAt n n l ≡ l
+  cut-all =
+      let e : n - n ≡ 0 = omega arith in
+      ap (λ (k : ℕ). take n l ++ replicate k 0) e ∙ append-nil (take n l) ∙ take-all n l (omega arith)
+
+  pub cut-length : (p : ℕ) → p ≤ n → length (cutAt n p l) ≡ n
+  cut-length p h = simp (length-append, length-replicate) (omega (arith, length-take-le p l (omega arith)))
+
+  pub cut-cut : (p q : ℕ) → p ≤ q → q ≤ n → cutAt n p (cutAt n q l) ≡ cutAt n p l
+  cut-cut p q h k =
+      ap (λ (m : List ℕ). m ++ replicate (n - p) 0)
+      (take-append-le p (take q l) (replicate (n - q) 0) (rw (length-take-le q l (omega arith)) h) ∙ take-take p q l h)
+
+  -- a store past the cut is not seen before it
+  pub cut-before : (p q v : ℕ) → p ≤ q → cutAt n p (set l q v) ≡ cutAt n p l
+  cut-before p q v h = ap (λ (m : List ℕ). m ++ replicate (n - p) 0) (take-set-le p l q v h)
+
+-- nothing stands from p on: it stays so after a store at p, for p + 1
+pub low-set : (n : ℕ) (l : List ℕ) (p v : ℕ) → length l ≡ n → p < n → cutAt n p l ≡ l → cutAt n (suc p) (set l p v) ≡ set l p v
+low-set n l p v sized h low =
+    let s : length (set l p v) ≡ n = length-set l p v ∙ sized in
+    sym (cut-set n (set l p v) s p h)
+    ∙ ap (λ (x : ℕ). set (cutAt n p (set l p v)) p x) (getD-set-same l p v 0 (omega arith))
+    ∙ ap (λ (m : List ℕ). set m p v) (cut-before n l sized p p v (omega arith) ∙ low)
+
+pub low-zero : (n : ℕ) (l : List ℕ) (p i : ℕ) → length l ≡ n → p ≤ n → cutAt n p l ≡ l → p ≤ i → getD l i 0 ≡ 0
+low-zero n l p i sized h low k = ap (λ (m : List ℕ). getD m i 0) (sym low) ∙ cut-beyond n l sized p i h k
+
+pub low-over : (n : ℕ) (l : List ℕ) (p d : ℕ) → length l ≡ n → p + d ≤ n → cutAt n p l ≡ l → cutAt n (p + d) l ≡ l
+low-over n l p d sized h low = sym (cut-over n l sized p d h (λ i a b. low-zero n l p i sized (omega arith) low a)) ∙ low
+
+-- rows of a shaft, read upward, go by their slots
+pub upward-agrees : (s t : Store) (x k : ℕ) → ((j : ℕ) → j < k → getD (s .slots) (16 * x + j) 0 ≡ getD (t .slots) (16 * x + j) 0) → upward s x k ≡ upward t x k
+unfolding upward
+upward-agrees s t x zero h = refl
+upward-agrees s t x (suc k) h = rw (upward-agrees s t x k (λ j p. h j (omega arith)), h k (omega arith))
+
+-- the store with its first i heights and its first p slots
+abbrev pub cut : Store → ℕ → ℕ → Store
+cut s i p = record { m = s .m; h = s .h; heights = cutAt 16 i (s .heights); slots = cutAt 256 p (s .slots) }

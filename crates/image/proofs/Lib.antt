@@ -1,0 +1,11 @@
+pub mod Carried
+pub mod Cut
+pub mod Endings
+pub mod Lengths
+pub mod Nexts
+pub mod Outputs
+pub mod Parts
+pub mod ReadBack
+pub mod RoundTrip
+pub mod States
+pub mod WriteBack

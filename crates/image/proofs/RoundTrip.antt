@@ -1,0 +1,211 @@
+-- The round trips (document 01, "The image"): a store accepted, written and read is that store; an accepted image, read and written, is those bytes.
+-- So no two images stand for one store.
+use borrow.Author.Tests.{lt-ltb, le-ltb, ltb-true, ltb-false, eqb-true}
+use mathlib.Core.Bool.{Bool, true, not}
+use mathlib.Core.List.{List, [], _++_, append-nil, append-assoc}
+use mathlib.Core.Path.{_≡_, refl, sym, ap, ap₂, _∙_, subst}
+use Prim.Native.Nat.{ℕ, suc, _+_, _-_, _*_, _/_, _%_, _≤_, _<_}
+use native.Mathlib.Decide.{decLt}
+use native.Mathlib.Nat.{zero-lt-suc}
+use native.Mathlib.Omega.{arith}
+use lib.Dec.{ltb, eqb}
+use lib.ListN.{length, getD, drop, length-append}
+use lib.Pow.{pow-pos}
+use lib.Seq.{take-all}
+use Rattle.bits.specs.Fields.{bits, field, bitsOf, bytesOf, byteCount}
+use Rattle.bits.proofs.Widths.{length-bits, length-packed, field-bits, field-lt, bits-field}
+use Rattle.bits.proofs.Bytes.{padded, bytes-agree, bytes-back, padded-agrees}
+use Rattle.store.specs.declared.Store.{Store}
+use Rattle.store.specs.Slots.{height, slot, cassettesBelow, cassettes, cassetteCount}
+use Rattle.store.specs.Accept.{given, inPlace, shaftsFault, storeFault, Accepted}
+use Rattle.store.specs.Sound.{Shaped}
+use Rattle.store.proofs.Acceptance.{accepted-sound}
+use Rattle.store.proofs.Faulted.{first-none, given-none, not-given, both-true}
+use Rattle.store.proofs.InPlace.{shaped-in-place}
+use Rattle.image.specs.Image.{headBits, shaftsBits, imageBits, imageLength, imageOf}
+use Rattle.image.specs.Reading.{Reading, emptyStore, next, padding, endFault, finish, readBody, readDepth, readSize, readForm, readImage}
+use Rattle.image.proofs.Cut.{cutAt, cut, cut-over, cut-all, low-zero}
+use Rattle.image.proofs.Nexts.{accepted, unless-accepted, next-reads, Took, took}
+use Rattle.image.proofs.ReadBack.{shafts-back}
+use Rattle.image.proofs.WriteBack.{Low, Settled, shafts-read}
+
+-- the cut of all shafts below m of a store that has nothing beyond is the store
+whole : (s : Store) → Shaped s → cut s (s .m) (16 * s .m) ≡ s
+unfolding slot
+whole s p =
+    let e : s .m + (16 - s .m) ≡ 16 = omega (arith, p .shafts) in
+    let f : 16 * s .m + (256 - 16 * s .m) ≡ 256 = omega (arith, p .shafts) in
+    ap₂ (λ (a l : List ℕ). record { m = s .m; h = s .h; heights = a; slots = l })
+    (cut-over 16 (s .heights) (p .heights-sized) (s .m) (16 - s .m) (omega arith) (λ i a b. p .none-beyond i a)
+    ∙ ap (λ (n : ℕ). cutAt 16 n (s .heights)) e ∙ cut-all 16 (s .heights) (p .heights-sized))
+    (cut-over 256 (s .slots) (p .slots-sized) (16 * s .m) (256 - 16 * s .m) (omega arith) (λ i a b. none i a (omega arith))
+    ∙ ap (λ (n : ℕ). cutAt 256 n (s .slots)) f ∙ cut-all 256 (s .slots) (p .slots-sized))
+  where
+    none : (i : ℕ) → 16 * s .m ≤ i → i < 256 → getD (s .slots) i 0 ≡ 0
+    none i a b =
+        let e : 16 * (i / 16) + i % 16 ≡ i = omega arith in
+        let z : height s (i / 16) ≡ 0 = p .none-beyond (i / 16) (omega arith) in
+        ap (λ (j : ℕ). getD (s .slots) j 0) (sym e) ∙ p .none-above (i / 16) (i % 16) (omega arith) (omega arith) (omega arith)
+
+-- zero bits to the end of the byte are padding
+zeros-pad : (k : ℕ) → k < 8 → padding (bits k 0) ≡ true
+unfolding padding
+zeros-pad k h =
+    let z : field (bits k 0) k ≡ 0 = ap (λ (l : List Bool). field l k) (sym (append-nil (bits k 0))) ∙ field-bits k 0 [] (pow-pos k) in
+    simp (length-bits k 0, lt-ltb k 8 h, z)
+
+finishes : (b : List ℕ) (s : Store) (l : List Bool) → length b ≤ 255 → padding l ≡ true → finish b s l ≡ accepted s
+unfolding finish
+finishes b s l h p = simp (le-ltb 255 (length b) h, p)
+
+-- a store accepted, written and read is that store
+pub written-read : (s : Store) → Accepted s → ((i : ℕ) → getD (s .slots) i 0 < 256) → readImage (imageOf s) ≡ accepted s
+unfolding readImage readBody imageOf imageLength imageBits headBits cassettes cassetteCount storeFault
+written-read s e small =
+    let p = accepted-sound s e in
+    let k = byteCount (length (imageBits s)) * 8 - length (imageBits s) in
+    let pad = bits k 0 in
+    let shafts = shaftsBits s (s .m) in
+    let faults = first-none (given (not (inPlace s)) 12) _ e in
+    let m : s .m - 1 + 1 ≡ s .m = omega (arith, p .some-shaft) in
+    let h : s .h - 1 + 1 ≡ s .h = omega (arith, p .some-row) in
+    ap (λ (l : List Bool). next 4 l readForm) (padded (imageBits s) k (omega arith) ∙ simp append-assoc)
+    ∙ next-reads 4 0 (bits 4 (s .m - 1) ++ (bits 4 (s .h - 1) ++ (shafts ++ pad))) readForm (zero-lt-suc 15)
+    ∙ next-reads 4 (s .m - 1) (bits 4 (s .h - 1) ++ (shafts ++ pad)) readDepth (omega (arith, p .shaped .shafts))
+    ∙ next-reads 4 (s .h - 1) (shafts ++ pad) (λ n r. readBody (emptyStore (s .m - 1 + 1) (n + 1)) r) (omega (arith, p .shaped .rows))
+    ∙ ap₂ (λ (n r : ℕ). readBody (emptyStore n r) (shafts ++ pad)) m h
+    ∙ shafts-back s (p .shaped) small (s .m) pad finish (p .shaped .shafts) (first-none (shaftsFault s (s .m)) _ (faults .1) .0)
+    ∙ finishes (cassettes s) (cut s (s .m) (16 * s .m)) pad (p .few) (zeros-pad k (omega arith))
+    ∙ ap accepted (whole s (p .shaped))
+
+-- what the end of a reading gives back
+finish-settles : (s : Store) (m : ℕ) (b : List ℕ) (t : Store) (l : List Bool) → Low m t → finish b t l ≡ accepted s → Settled s m t
+unfolding finish
+finish-settles s m b t l low e =
+    let q : t ≡ s = ap (λ (r : Reading). r .store) (unless-accepted (endFault b l) (accepted t) s e .1) in
+    record {
+      same =
+          ap₂ (λ (a k : List ℕ). record { m = t .m; h = t .h; heights = a; slots = k }) (sym (low .heights)) (sym (low .slots))
+          ∙ ap (λ (u : Store). cut u m (16 * m)) q;
+      heights-sized = subst (λ (u : Store). length (u .heights) ≡ 16) q (low .heights-sized);
+      slots-sized = subst (λ (u : Store). length (u .slots) ≡ 256) q (low .slots-sized);
+    }
+
+-- padding is zero bits
+pads : (l : List Bool) → padding l ≡ true → (length l < 8) × (l ≡ bits (length l) 0)
+unfolding padding
+pads l e =
+    let p = both-true _ _ e in (
+      ltb-true (length l) 8 (p .0),
+      sym (take-all (length l) l (omega arith)) ∙ sym (bits-field (length l) l (omega arith)) ∙ ap (bits (length l)) (eqb-true (field l (length l)) 0 (p .1)),
+    )
+
+-- what was read after the size: the store s of m shafts and depth h
+record Body (s : Store) (m h : ℕ) (l : List Bool) : Type 0 where
+  shafts : s .m ≡ m
+  rows : s .h ≡ h
+  left : List Bool
+  begins : l ≡ shaftsBits s (s .m) ++ left
+  pad : padding left ≡ true
+  shaped : Shaped s
+  clean : shaftsFault s (s .m) ≡ 0
+  few : cassetteCount s ≤ 255
+
+module _ (s : Store) (m : ℕ) (few : m ≤ 16) (same : s .m ≡ m) (low : Low m s) (above : (y k : ℕ) → y < m → height s y ≤ k → k < 16 → slot s y (suc k) ≡ 0)
+    (high : (y : ℕ) → y < m → height s y ≤ s .h) where
+  beyond : (x : ℕ) → m ≤ x → height s x ≡ 0
+  beyond x h = low-zero 16 (s .heights) m x (low .heights-sized) few (low .heights) h
+
+  low-shaped : Shaped s
+  unfolding slot
+  low-shaped = record {
+    heights-sized = low .heights-sized;
+    slots-sized = low .slots-sized;
+    shafts = omega arith;
+    rows = low .rows;
+    heights = λ x. elim (decLt x m) [ yes h ↦ high x h | no h ↦ omega (arith, beyond x (omega arith)) ];
+    none-beyond = λ x h. beyond x (omega arith);
+    none-above = λ x k a b h. elim (decLt x m) [
+      | yes g ↦ above x k g h b
+      | no g ↦ low-zero 256 (s .slots) (16 * m) (16 * x + k) (low .slots-sized) (omega arith) (low .slots) (omega arith)
+    ];
+  }
+
+body-read : (s : Store) (m h : ℕ) (l : List Bool) → m ≤ 16 → h ≤ 16 → readBody (emptyStore m h) l ≡ accepted s → Body s m h l
+unfolding readBody finish cassettes cassetteCount
+body-read s m h l few rows e =
+    let low : Low 0 (emptyStore m h) = record { heights-sized = refl; slots-sized = refl; heights = refl; slots = refl; rows = rows } in
+    let p = shafts-read s (emptyStore m h) m l finish few low (λ b t r. finish-settles s m b t r) e in
+    let f = unless-accepted (endFault (cassettesBelow s m) (p .left)) (accepted (cut s m (16 * m))) s (p .after) in
+    let g = first-none (given (ltb 255 (length (cassettesBelow s m))) 6) _ (f .0) in
+    let all = subst (Low m) (ap (λ (r : Reading). r .store) (f .1)) (p .low) in
+    let is = sym (p .same-shafts) in
+    record {
+      shafts = is;
+      rows = sym (p .same-rows);
+      left = p .left;
+      begins = subst (λ (n : ℕ). l ≡ shaftsBits s n ++ p .left) (sym is) (p .begins);
+      pad = not-given (padding (p .left)) 6 (g .1);
+      shaped = low-shaped s m few is all (p .above) (p .high);
+      clean = subst (λ (n : ℕ). shaftsFault s n ≡ 0) (sym is) (p .clean);
+      few = subst (λ (n : ℕ). length (cassettesBelow s n) ≤ 255) (sym is) (ltb-false 255 (length (cassettesBelow s m)) (given-none _ 5 (g .0)));
+    }
+
+-- a store whose parts were read has no fault
+body-accepted : (s : Store) (m h : ℕ) (l : List Bool) → 0 < m → 0 < h → Body s m h l → Accepted s
+unfolding storeFault
+body-accepted s m h l a b p =
+    simp (shaped-in-place s (p .shaped) (omega (arith, p .shafts)) (omega (arith, p .rows)), p .clean, le-ltb 255 (cassetteCount s) (p .few))
+
+-- the fields before the shafts
+head-begins : (s : Store) (m h : ℕ) (l k r q left : List Bool) → s .m ≡ m + 1 → s .h ≡ h + 1 → l ≡ bits 4 0 ++ k → k ≡ bits 4 m ++ r → r ≡ bits 4 h ++ q
+    → q ≡ shaftsBits s (s .m) ++ left → l ≡ imageBits s ++ left
+unfolding imageBits headBits
+head-begins s m h l k r q left em eh el ek er eq =
+    let fm : m ≡ s .m - 1 = omega arith in
+    let fh : h ≡ s .h - 1 = omega arith in
+    rw (el, ek, er, eq, fm, fh) (simp append-assoc)
+
+-- bytes that begin with an image, and end in padding, are that image
+image-bytes : (s : Store) (bytes : List ℕ) (left : List Bool) → ((i : ℕ) → getD bytes i 0 < 256) → bitsOf bytes ≡ imageBits s ++ left → padding left ≡ true → imageOf s ≡ bytes
+unfolding imageOf imageLength bitsOf
+image-bytes s bytes left small e p =
+    let q = pads left p in
+    let n = length bytes in
+    let f : length (imageBits s) + length left ≡ n * 8 = sym (length-append (imageBits s) left) ∙ ap length (sym e) ∙ length-packed 8 bytes in
+    let g : byteCount (length (imageBits s)) ≡ n = omega arith in
+    ap (λ (k : ℕ). bytesOf k (imageBits s)) g
+    ∙ bytes-agree n (imageBits s) (imageBits s ++ bits (length left) 0) (λ i. sym (padded-agrees (imageBits s) (length left) i))
+    ∙ ap (λ (l : List Bool). bytesOf n (imageBits s ++ l)) (sym (q .1))
+    ∙ ap (bytesOf n) (sym e)
+    ∙ bytes-back bytes small
+
+-- an accepted image gives a store that is accepted, and that store is written as the same bytes
+pub read-written : (bytes : List ℕ) (s : Store) → ((i : ℕ) → getD bytes i 0 < 256) → readImage bytes ≡ accepted s → Accepted s × (imageOf s ≡ bytes)
+unfolding readImage
+read-written bytes s small e = form (took 4 (bitsOf bytes) readForm s e)
+  where
+    rest : (f : Took 4 (bitsOf bytes) readForm s) (g : Took 4 (drop 4 (bitsOf bytes)) readDepth s)
+        → Took 4 (drop 4 (drop 4 (bitsOf bytes))) (λ h r. readBody (emptyStore (g .v + 1) (h + 1)) r) s → f .v ≡ 0 → Accepted s × (imageOf s ≡ bytes)
+    rest f g h z =
+        let m : g .v < 16 = rw (g .is .value) (field-lt _ 4) in
+        let d : h .v < 16 = rw (h .is .value) (field-lt _ 4) in
+        let b = body-read s (g .v + 1) (h .v + 1) _ (omega arith) (omega arith) (h .after) in (
+          body-accepted s (g .v + 1) (h .v + 1) _ (omega arith) (omega arith) b,
+          image-bytes s bytes (b .left) small
+              (head-begins s (g .v) (h .v) _ _ _ _ (b .left) (b .shafts) (b .rows)
+              (f .is .begins ∙ ap (λ (k : ℕ). bits 4 k ++ drop 4 (bitsOf bytes)) z) (g .is .begins) (h .is .begins) (b .begins))
+              (b .pad),
+        )
+
+    size : (f : Took 4 (bitsOf bytes) readForm s) → Took 4 (drop 4 (bitsOf bytes)) readDepth s → f .v ≡ 0 → Accepted s × (imageOf s ≡ bytes)
+    size f g z = rest f g (took 4 (drop 4 (drop 4 (bitsOf bytes))) _ s (g .after)) z
+
+    form : Took 4 (bitsOf bytes) readForm s → Accepted s × (imageOf s ≡ bytes)
+    form f =
+        let u = unless-accepted (given (not (eqb (f .v) 0)) 1) (readSize (drop 4 (bitsOf bytes))) s (f .after) in
+        size f (took 4 (drop 4 (bitsOf bytes)) readDepth s (u .1)) (eqb-true (f .v) 0 (not-given (eqb (f .v) 0) 0 (u .0)))
+
+-- no two images stand for one store
+pub one-image : (a b : List ℕ) (s : Store) → ((i : ℕ) → getD a i 0 < 256) → ((i : ℕ) → getD b i 0 < 256) → readImage a ≡ accepted s → readImage b ≡ accepted s → a ≡ b
+one-image a b s p q e f = sym (read-written a s p e .1) ∙ read-written b s q f .1

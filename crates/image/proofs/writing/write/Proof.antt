@@ -1,0 +1,88 @@
+-- `write` meets its contract: the store's faults, 10, or the fields and the padding.
+use mathlib.Core.Path.{_≡_}
+use native.Mathlib.Omega.{arith}
+use Rattle.store.specs.declared.Store.{Store}
+use Rattle.store.specs.declared.Checked.{Checked}
+use Rattle.store.specs.declared.Verdict.the-variants.{Accepted as Taken}
+use Rattle.store.specs.Slots.{cassettes}
+use Rattle.store.specs.Accept.{storeFault, Accepted}
+use Rattle.store.specs.Promises.{CheckIs}
+use Rattle.store.proofs.Acceptance.{accepted-sound}
+use Rattle.store.proofs.Checks.{accepted-none, refused-one}
+use Rattle.image.proofs.Lengths.{length-head, image-length}
+use Rattle.image.proofs.Outputs.{store-refused, no-room, image-written}
+use borrow.Author.Needs.{needs}
+use Rattle.image.proofs.writing.write.Statement.{statement}
+use Rattle.image.proofs.writing.write.Tie as tie
+
+check-requires : tie.Need-check-requires
+check-requires c κs = search needs
+
+enum-known-verdict : tie.Need-enum-known-verdict
+enum-known-verdict c = search needs
+
+passed : (s : Store) (r : Checked) → CheckIs (storeFault s) (cassettes s) r → r .verdict ≡ Taken → Accepted s
+passed s r p e = accepted-none (storeFault s) (cassettes s) r p e .0
+
+returns : tie.Need-returns
+returns c = let a = c .before .before .before .before .before .args in store-refused (a .s) (a .out .now) _ (refused-one _ (storeFault (a .s)) (cassettes (a .s)) (c .before .before .before .check .result) (c .before .before .before .check .ensures) (c .before .verdict .given .1))
+
+enum-told : tie.Need-enum-told
+enum-told c = search needs
+
+count-bits-requires : tie.Need-count-bits-requires
+count-bits-requires c κs = accepted-sound (c .before .before .before .before .args .s) (passed (c .before .before .before .before .args .s) (c .before .before .check .result) (c .before .before .check .ensures) (c .enum-told .given .1)) .shaped .shafts
+
+add-bits : tie.Need-add-bits
+add-bits c = search needs
+
+add-if1 : tie.Need-add-if1
+add-if1 c = search needs
+
+returns-2 : tie.Need-returns-2
+returns-2 c = let a = c .before .before .before .before .before .before .args in no-room (a .s) (a .out .now) (passed (c .before .before .before .before .before .before .args .s) (c .before .before .before .before .check .result) (c .before .before .before .before .check .ensures) (c .before .before .enum-told .given .1)) (omega (arith, image-length (a .s), c .before .count-bits .ensures .0))
+
+write-head-requires : tie.Need-write-head-requires
+write-head-requires c κs = let p = accepted-sound (c .before .before .before .before .before .before .before .args .s) (passed (c .before .before .before .before .before .before .before .args .s) (c .before .before .before .before .before .check .result) (c .before .before .before .before .before .check .ensures) (c .before .before .before .enum-told .given .1)) in (p .some-shaft, p .some-row, omega arith)
+
+write-shafts-requires : tie.Need-write-shafts-requires
+write-shafts-requires c κs =
+    let a = c .before .before .before .before .before .before .before .before .before .before .before .args in
+    let h = c .before .before .before .write-head .ensures in (
+      accepted-sound (a .s) (passed (c .before .before .before .before .before .before .before .before .before .before .before .args .s) (c .before .before .before .before .before .before .before .before .before .check .result) (c .before .before .before .before .before .before .before .before .before .check .ensures) (c .before .before .before .before .before .before .before .enum-told .given .1)) .shaped,
+      (h .full, omega (arith, h .count, h .same-length, length-head (a .s), c .before .before .before .before .before .before .count-bits .ensures .0, c .before .before .before .before .before .if1 .left)),
+    )
+
+pad-requires : tie.Need-pad-requires
+pad-requires c κs =
+    let a = c .before .before .before .before .before .before .before .before .before .before .before .before .before .before .before .args in
+    let h = c .before .before .before .before .before .before .before .write-head .ensures in
+    let p = c .before .before .before .write-shafts .ensures in
+    (p .full, omega (arith, h .count, h .same-length, p .count, p .same-length, length-head (a .s), c .before .before .before .before .before .before .before .before .before .before .count-bits .ensures .0, c .before .before .before .before .before .before .before .before .before .if1 .left))
+
+same-length : tie.Need-same-length
+same-length c = search needs
+
+returns-3 : tie.Need-returns-3
+returns-3 c =
+    let a = c .before .before .before .before .before .before .before .before .before .before .before .before .before .before .before .before .before .before .args in
+    image-written (a .s) (a .out .now) (passed (c .before .before .before .before .before .before .before .before .before .before .before .before .before .before .before .before .before .before .args .s) (c .before .before .before .before .before .before .before .before .before .before .before .before .before .before .before .before .check .result) (c .before .before .before .before .before .before .before .before .before .before .before .before .before .before .before .before .check .ensures) (c .before .before .before .before .before .before .before .before .before .before .before .before .before .before .enum-told .given .1)) (omega (arith, image-length (a .s), c .before .before .before .before .before .before .before .before .before .before .before .before .before .count-bits .ensures .0, c .before .before .before .before .before .before .before .before .before .before .before .before .if1 .left)) _ _ _ _ _ _
+    (c .before .before .before .before .before .before .before .before .before .before .write-head .ensures) (c .before .before .before .before .before .before .write-shafts .ensures) (c .before .before .pad .ensures)
+
+pub write-spec : {M : Type 1} → statement M
+write-spec =
+    tie.close
+    (tie.spec
+    check-requires
+    enum-known-verdict
+    returns
+    enum-told
+    count-bits-requires
+    add-bits
+    add-if1
+    returns-2
+    write-head-requires
+    write-shafts-requires
+    pad-requires
+    same-length
+    returns-3)

@@ -1,0 +1,5 @@
+pub mod Image
+pub mod Numbers
+pub mod Promises
+pub mod Reading
+pub mod Writing

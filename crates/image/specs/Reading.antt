@@ -1,0 +1,116 @@
+-- Reading an image (document 01, "Which comes first"): "Reading goes field by field, and the first fault met is given: 2 for a missing field, then
+-- the field's own fault (4 before 5). After the last shaft come 6, then 7". Each part is handed what is read after it, so the faults come in this order.
+use mathlib.Core.Bool.{Bool, not, _&&_}
+use mathlib.Core.List.{List, [], _∷_, _++_}
+use Prim.Native.Nat.{ℕ, zero, suc, _+_, _*_}
+use lib.Dec.{ltb, eqb}
+use lib.ListN.{length, drop, set, replicate}
+use Rattle.bits.specs.declared.Field.{Field}
+use Rattle.bits.specs.declared.Field.the-variants.{Value, Missing}
+use Rattle.bits.specs.Fields.{field, bitsOf, nextField}
+use Rattle.store.specs.declared.Store.{Store}
+use Rattle.store.specs.Slots.{depth}
+use Rattle.store.specs.Accept.{given, first, cassetteFault}
+
+-- the store, and the number of the refusal, 0 where the image is accepted
+pub record Reading : Type 0 where
+  pub store : Store
+  pub number : ℕ
+
+-- a store of m shafts of depth h with no cassette
+abbrev pub emptyStore : ℕ → ℕ → Store
+emptyStore m h = record { m = m; h = h; heights = replicate 16 0; slots = replicate 256 0 }
+
+-- "a refused reading hands back the empty store of m 1, h 1"
+abbrev pub refused : ℕ → Reading
+refused k = record { store = emptyStore 1 1; number = k }
+
+-- a reading that goes on unless the number k refuses it
+abbrev pub unless : ℕ → Reading → Reading
+unless zero r = r
+unless (suc k) r = refused (suc k)
+
+-- what is read next, from the cassettes read so far, the store that they make, and the bits left
+abbrev pub Rest : Type 0
+Rest = List ℕ → Store → List Bool → Reading
+
+-- a part of the reading, with what is read after it
+abbrev pub Part : Type 0
+Part = List ℕ → Store → List Bool → Rest → Reading
+
+-- "2. The image ends before its last field does."
+abbrev pub fromField : Field → (ℕ → Reading) → Reading
+fromField (Value v) c = c v
+fromField Missing c = refused 2
+
+-- the next field of w bits
+abbrev pub next : ℕ → List Bool → (ℕ → List Bool → Reading) → Reading
+next w l c = fromField (nextField l w) (λ v. c v (drop w l))
+
+-- the store with height v of shaft x
+abbrev pub raised : Store → ℕ → ℕ → Store
+raised s x v = record { m = s .m; h = s .h; heights = set (s .heights) x v; slots = s .slots }
+
+-- the store with cassette v at row k + 1 of shaft x
+abbrev pub placed : Store → ℕ → ℕ → ℕ → Store
+placed s x k v = record { m = s .m; h = s .h; heights = s .heights; slots = set (s .slots) (16 * x + k) v }
+
+-- "4. A cassette number 0. 5. A cassette number that stood earlier in the image."
+abbrev pub takeCassette : ℕ → ℕ → ℕ → Part
+takeCassette x k v before s l c = unless (cassetteFault before v) (c (before ++ (v ∷ [])) (placed s x k v) l)
+
+abbrev pub readRow : ℕ → ℕ → Part
+readRow x k before s l c = next 8 l (λ v r. takeCassette x k v before s r c)
+
+-- "its cassettes from row 1 upward (8 each)": the first k
+unfoldable pub readRows : ℕ → ℕ → Part
+readRows x zero before s l c = c before s l
+readRows x (suc k) before s l c = readRows x k before s l (λ b t r. readRow x k b t r c)
+
+-- "3. A height above h.", and then the shaft's cassettes
+unfoldable pub readColumn : ℕ → ℕ → Part
+unfolding readRows
+readColumn x v before s l c = unless (given (ltb (depth s x) v) 3) (readRows x v before (raised s x v) l c)
+
+-- "for each shaft from 0 its height (5) and its cassettes"
+abbrev pub readShaft : ℕ → Part
+readShaft x before s l c = next 5 l (λ v r. readColumn x v before s r c)
+
+-- the shafts below x
+unfoldable pub readShafts : ℕ → Part
+unfolding readColumn
+readShafts zero before s l c = c before s l
+readShafts (suc x) before s l c = readShafts x before s l (λ b t r. readShaft x b t r c)
+
+-- what is left is zero bits to the end of a byte: "the byte in which the last field ends holds all the padding"
+unfoldable pub padding : List Bool → Bool
+padding l = ltb (length l) 8 && eqb (field l (length l)) 0
+
+-- "6. More than 255 cassettes. 7. A padding bit set, or bytes after the padding."
+abbrev pub endFault : List ℕ → List Bool → ℕ
+endFault before l = first (given (ltb 255 (length before)) 6) (given (not (padding l)) 7)
+
+unfoldable pub finish : Rest
+unfolding padding
+finish before s l = unless (endFault before l) (record { store = s; number = 0 })
+
+-- the shafts of a store that is empty so far, and the end
+unfoldable pub readBody : Store → List Bool → Reading
+unfolding readShafts finish
+readBody s l = readShafts (s .m) [] s l finish
+
+-- "m − 1 (4), h − 1 (4)"
+abbrev pub readDepth : ℕ → List Bool → Reading
+readDepth m l = next 4 l (λ h r. readBody (emptyStore (m + 1) (h + 1)) r)
+
+abbrev pub readSize : List Bool → Reading
+readSize l = next 4 l readDepth
+
+-- "1. Form isn't 0."
+abbrev pub readForm : ℕ → List Bool → Reading
+readForm f l = unless (given (not (eqb f 0)) 1) (readSize l)
+
+-- what a list of bytes is read as, for every list
+unfoldable pub readImage : List ℕ → Reading
+unfolding readBody
+readImage bytes = next 4 (bitsOf bytes) readForm

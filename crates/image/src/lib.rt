@@ -1,0 +1,39 @@
+// Images of stores (document 01, "The image"): a store read from packed bits, and written as them. The definitions that the contracts
+// cite are in specs/; proofs/RoundTrip.antt shows that reading and writing undo each other.
+pub mod number;
+pub mod reading;
+pub mod writing;
+
+use store::Fault;
+use store::Store;
+
+// Why an image is refused: 1 to 7.
+pub enum ReadAnswer {
+    Accepted,
+    WrongForm,
+    Short,
+    TooHigh,
+    NumberZero,
+    Twice,
+    TooMany,
+    Padding,
+}
+
+// The store that an image stands for, or the empty store of m 1, h 1 where it is refused.
+pub struct Read {
+    pub store: Store,
+    pub answer: ReadAnswer,
+}
+
+// Why no image is written: the store's number, or 10.
+pub enum WriteAnswer {
+    Whole,
+    StoreRefused(Fault),
+    NoRoom,
+}
+
+// How many bytes are written.
+pub struct Written {
+    pub count: usize,
+    pub answer: WriteAnswer,
+}

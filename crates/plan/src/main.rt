@@ -1,0 +1,82 @@
+// The program of document 01, "The program": reads start.img and goal.img in the current directory and prints the list of lifts, or why
+// there is none.
+use image::Read;
+use image::number::read_number;
+use image::reading::read;
+use libc::STDOUT_FILENO;
+use planner::make_list;
+use planner::number::plan_number;
+use store::Store;
+use store::byte::entered_of;
+use store::byte::left_of;
+
+// Reads a file as an image: its first 300 bytes, none where it can't be read.
+fn read_file(path: &[u8]) -> Read {
+    let mut buffer = [0u8; 300];
+    let file = os::open_read(path);
+    if file < 0 {
+        return read(b"");
+    }
+    let n = io::read_full(file, &mut buffer);
+    libc::close(file);
+    read(&buffer[..n])
+}
+
+fn refused(number: u8, word: &[u8]) {
+    io::write_all(STDOUT_FILENO, b"refused ");
+    io::print_decimal(STDOUT_FILENO, number as u64);
+    io::write_all(STDOUT_FILENO, word);
+}
+
+fn print_lift(b: u8) {
+    io::print_decimal(STDOUT_FILENO, left_of(b).0 as u64);
+    io::write_all(STDOUT_FILENO, b">");
+    io::print_decimal(STDOUT_FILENO, entered_of(b).0 as u64);
+    io::write_all(STDOUT_FILENO, b"\n");
+}
+
+fn print_list(list: &[u8], count: usize) {
+    io::write_all(STDOUT_FILENO, b"lifts ");
+    io::print_decimal(STDOUT_FILENO, count as u64);
+    io::write_all(STDOUT_FILENO, b"\n");
+    let mut i: usize = 0;
+    while i < count {
+        if list.len() <= i {
+            return;
+        }
+        print_lift(list[i]);
+        i += 1;
+    }
+}
+
+fn print_plan(start: Store, goal: Store) {
+    let mut list = [0u8; 18360];
+    let planned = make_list(start, goal, &mut list);
+    let answer = planned.answer;
+    let number = plan_number(answer);
+    if number == 0 {
+        print_list(&list, planned.count);
+        return;
+    }
+    refused(number, b" both\n");
+}
+
+fn main() {
+    let one = read_file(b"start.img");
+    let first = one.answer;
+    let number = read_number(first);
+    if number != 0 {
+        refused(number, b" start\n");
+        return;
+    }
+    let two = read_file(b"goal.img");
+    let second = two.answer;
+    let other = read_number(second);
+    if other != 0 {
+        refused(other, b" goal\n");
+        return;
+    }
+    let start = one.store;
+    let goal = two.store;
+    print_plan(start, goal);
+}
