@@ -1,27 +1,31 @@
--- When two stores of one frame are the same: place by place of a list, and field by field.
-use mathlib.Core.Bool.{Bool, true, false}
+-- When two stores of one frame are the same: the heights and the slots decide, each by a test of two lists.
+use borrow.Author.Tests.{not-true, not-false}
+use mathlib.Core.Bool.{Bool, true, false, not}
 use mathlib.Core.List.{List}
-use mathlib.Core.Path.{_≡_, sym, ap, _∙_}
-use Prim.Native.Nat.{ℕ, _≤_, _<_}
+use mathlib.Core.Path.{_≡_, refl, sym, ap, _∙_}
+use Prim.Native.Nat.{ℕ}
 use native.Mathlib.Omega.{arith}
-use lib.ListN.{length, getD}
-use lib.Seq.{ext-getD}
 use Rattle.store.specs.declared.Store.{Store}
 use Rattle.rules.specs.Promises.{Decides}
-use Rattle.rules.proofs.Deciding.{holds, fails, decides-as}
+use Rattle.rules.proofs.Deciding.{fails, decides-as}
 
-module _ (v w : List ℕ) where
-  pub places-differ : (i : ℕ) → (getD v i 0 ≡ getD w i 0 → ⊥) → Decides false (v ≡ w)
-  places-differ i n = fails λ e. n (ap (λ (l : List ℕ). getD l i 0) e)
+-- what a test of two lists says
+abbrev pub Tests : Bool → List ℕ → List ℕ → Type 0
+Tests r v w = (r ≡ true → v ≡ w) × (v ≡ w → r ≡ true)
 
-  pub places-agree : (n i : ℕ) → length v ≡ n → length w ≡ n → n ≤ i → ((k : ℕ) → k < i → getD v k 0 ≡ getD w k 0) → Decides true (v ≡ w)
-  places-agree n i e f h g = holds (ext-getD 0 v w (e ∙ sym f) λ k l. g k (omega arith))
+tests-decide : {r : Bool} (v w : List ℕ) → Tests r v w → Decides r (v ≡ w)
+tests-decide v w t =
+    record {
+      so = t .0;
+      not-so = λ f e. let z : _≡_ {A = Bool} true false = sym (t .1 e) ∙ f in let y : _≡_ {A = ℕ} 0 1 = cc in omega arith;
+    }
 
 module _ (s t : Store) where
-  pub heights-differ : (s .heights ≡ t .heights → ⊥) → Decides false (s ≡ t)
-  heights-differ n = fails λ e. n (ap (λ (u : Store). u .heights) e)
+  pub heights-differ : {r : Bool} → Tests r (s .heights) (t .heights) → not r ≡ true → Decides false (s ≡ t)
+  heights-differ {r} h n = fails (λ e. tests-decide _ _ h .not-so (not-true r n) (ap (λ (u : Store). u .heights) e))
 
   -- with the rest the same, the slots decide
-  pub slots-decide : {r : Bool} → (s .m ≡ t .m) × (s .h ≡ t .h) → s .heights ≡ t .heights → Decides r (s .slots ≡ t .slots) → Decides r (s ≡ t)
-  slots-decide f e =
-      decides-as (λ q i. record { m = f .0 i; h = f .1 i; heights = e i; slots = q i }) (λ q. ap (λ (u : Store). u .slots) q)
+  pub slots-decide : {q r : Bool} → (s .m ≡ t .m) × (s .h ≡ t .h) → Tests q (s .heights) (t .heights) → not q ≡ false → Tests r (s .slots) (t .slots) → Decides r (s ≡ t)
+  slots-decide {q} f h n d =
+      let e = h .0 (not-false q n) in
+      decides-as (λ p i. record { m = f .0 i; h = f .1 i; heights = e i; slots = p i }) (λ p. ap (λ (u : Store). u .slots) p) (tests-decide _ _ d)

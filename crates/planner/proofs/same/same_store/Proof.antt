@@ -1,23 +1,42 @@
--- `same_store` meets its contract: the heights differ, or the slots decide.
+-- `same_store` meets its contract.
 use borrow.Author.Needs.{needs}
-use borrow.Author.Tests.{not-true, not-false}
 use Rattle.planner.proofs.PlanSame.{heights-differ, slots-decide}
 use Rattle.planner.proofs.same.same_store.Statement.{statement}
 use Rattle.planner.proofs.same.same_store.Tie as tie
 
-same-heights-requires : tie.Need-same-heights-requires
-same-heights-requires c κs = search needs
+slice-aggregate-same : tie.Need-slice-aggregate-same
+slice-aggregate-same c = search needs
+
+slice-aggregate-same-2 : tie.Need-slice-aggregate-same-2
+slice-aggregate-same-2 c = search needs
+
+same-requires : tie.Need-same-requires
+same-requires c κs = search needs
 
 returns : tie.Need-returns
-returns c = heights-differ _ _ (c .before .same-heights .ensures .not-so (not-true _ (c .if1 .taken)))
+returns c = heights-differ (c .before .before .before .before .before .before .args .s) (c .before .before .before .before .before .before .args .t) (c .before .same .ensures) (c .if1 .taken)
 
-same-slots-requires : tie.Need-same-slots-requires
-same-slots-requires c κs = search needs
+slice-aggregate-same-3 : tie.Need-slice-aggregate-same-3
+slice-aggregate-same-3 c = search needs
+
+slice-aggregate-same-4 : tie.Need-slice-aggregate-same-4
+slice-aggregate-same-4 c = search needs
+
+same-requires-2 : tie.Need-same-requires-2
+same-requires-2 c κs = search needs
 
 returns-2 : tie.Need-returns-2
-returns-2 c =
-    let d = c .before .before in
-    slots-decide _ _ (d .before .pre) (d .same-heights .ensures .so (not-false _ (c .before .if1 .left))) (c .same-slots .ensures)
+returns-2 c = slots-decide (c .before .before .before .before .before .before .before .before .before .before .before .args .s) (c .before .before .before .before .before .before .before .before .before .before .before .args .t) (c .before .before .before .before .before .before .before .before .before .before .before .pre) (c .before .before .before .before .before .before .same .ensures) (c .before .before .before .before .before .if1 .left) (c .same2 .ensures)
 
 pub same-store-spec : {M : Type 1} → statement M
-same-store-spec = tie.close (tie.spec same-heights-requires returns same-slots-requires returns-2)
+same-store-spec =
+    tie.close
+    (tie.spec
+    slice-aggregate-same
+    slice-aggregate-same-2
+    same-requires
+    returns
+    slice-aggregate-same-3
+    slice-aggregate-same-4
+    same-requires-2
+    returns-2)

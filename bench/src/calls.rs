@@ -1,0 +1,66 @@
+//! The C calls on a case.
+
+use crate::cases::Case;
+use halyard_model::play;
+use halyard_outside::calls::{Answer, c};
+
+/// The list space lent: the most that any store asks for.
+pub const LENT: usize = 18_360;
+
+/// Checks the start's image.
+pub fn check(case: &Case) -> Answer {
+    let image = &case.start_image;
+    // SAFETY: the pointer has as many bytes as are named.
+    Answer::from_bits(unsafe { c::halyard_check(image.as_ptr(), image.len()) })
+}
+
+/// The yes or no.
+pub fn reachable(case: &Case) -> Answer {
+    let (start, goal) = (&case.start_image, &case.goal_image);
+    // SAFETY: each pointer has as many bytes as are named.
+    Answer::from_bits(unsafe {
+        c::halyard_reachable(start.as_ptr(), start.len(), goal.as_ptr(), goal.len())
+    })
+}
+
+/// Plans into a list.
+pub fn plan(case: &Case, list: &mut [u8]) -> Answer {
+    let (start, goal) = (&case.start_image, &case.goal_image);
+    // SAFETY: each pointer has as many bytes as are named, and the list overlaps nothing.
+    Answer::from_bits(unsafe {
+        c::halyard_plan(
+            start.as_ptr(),
+            start.len(),
+            goal.as_ptr(),
+            goal.len(),
+            list.as_mut_ptr(),
+            list.len(),
+        )
+    })
+}
+
+/// Replays a list on the start.
+pub fn replay(case: &Case, list: &[u8], out: &mut [u8]) -> Answer {
+    let image = &case.start_image;
+    // SAFETY: each pointer has as many bytes as are named, and `out` overlaps nothing.
+    Answer::from_bits(unsafe {
+        c::halyard_replay(
+            image.as_ptr(),
+            image.len(),
+            list.as_ptr(),
+            list.len(),
+            out.as_mut_ptr(),
+            out.len(),
+        )
+    })
+}
+
+/// The list that the C call plans for a case, seen to lead to the goal.
+pub fn planned(case: &Case) -> Vec<u8> {
+    let mut list = vec![0; LENT];
+    let answer = plan(case, &mut list);
+    assert_eq!(answer.number, 0);
+    list.truncate(answer.count as usize);
+    assert!(play::leads(&case.start, &list, &case.goal));
+    list
+}

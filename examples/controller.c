@@ -1,0 +1,229 @@
+/*
+ * How a controller uses Halyardgage: check two images, ask whether the goal
+ * can be reached, plan the lifts, and replay them. Then some of the ways in
+ * which a call is refused.
+ *
+ *     cc -Iinclude examples/controller.c -Ltarget/staticlib -lhalyardgage
+ */
+#include <inttypes.h>
+#include <stdio.h>
+#include <string.h>
+
+#include "halyardgage.h"
+
+/* An image and its length. */
+struct image {
+    uint8_t bytes[HALYARD_IMAGE_MAX];
+    size_t len;
+};
+
+/* Packs a field at a position in bits, and moves the position on. */
+static void put(struct image *image, size_t *at, unsigned width, unsigned value)
+{
+    while (width-- > 0) {
+        if (*at % 8 == 0) {
+            image->bytes[image->len++] = 0;
+        }
+        image->bytes[*at / 8] |=
+            (uint8_t)((value >> width & 1u) << (7 - *at % 8));
+        ++*at;
+    }
+}
+
+/* Takes the field at a position in bits, and moves the position on. */
+static unsigned get(const struct image *image, size_t *at, unsigned width)
+{
+    unsigned value = 0;
+    while (width-- > 0) {
+        value = value << 1 | (image->bytes[*at / 8] >> (7 - *at % 8) & 1u);
+        ++*at;
+    }
+    return value;
+}
+
+/* The image of a store. Cassettes are given shaft by shaft from row 1, with 0
+ * at the end of each shaft. */
+static struct image pack(unsigned m, unsigned h, const uint8_t *cassettes)
+{
+    struct image image;
+    size_t at = 0;
+    image.len = 0;
+    put(&image, &at, 4, 0);
+    put(&image, &at, 4, m - 1);
+    put(&image, &at, 4, h - 1);
+    while (m-- > 0) {
+        put(&image, &at, 5, (unsigned)strlen((const char *)cassettes));
+        while (*cassettes != 0) {
+            put(&image, &at, 8, *cassettes++);
+        }
+        ++cassettes;
+    }
+    return image;
+}
+
+/* Prints a store, as [1 2] [] [3], bottom first. The image has been checked. */
+static void print_store(const char *name, const struct image *image)
+{
+    size_t at = 4;
+    unsigned m = get(image, &at, 4) + 1;
+    printf("%-10s", name);
+    at += 4;
+    while (m-- > 0) {
+        unsigned height = get(image, &at, 5);
+        printf(" [");
+        while (height-- > 0) {
+            printf("%u%s", get(image, &at, 8), height > 0 ? " " : "");
+        }
+        printf("]");
+    }
+    printf("\n");
+}
+
+/* What a refusal means. */
+static const char *meaning(int number)
+{
+    switch (number) {
+    case HALYARD_FORM: return "the form is not 0";
+    case HALYARD_IMAGE_ENDS: return "the image ends too early";
+    case HALYARD_HEIGHT: return "a shaft is higher than its depth";
+    case HALYARD_CASSETTE_ZERO: return "a cassette has number 0";
+    case HALYARD_CASSETTE_TWICE: return "a cassette stands twice";
+    case HALYARD_TOO_MANY: return "there are more than 255 cassettes";
+    case HALYARD_PADDING: return "something follows the last field";
+    case HALYARD_SHAPES_DIFFER: return "the stores differ in shape";
+    case HALYARD_CASSETTES_DIFFER: return "the stores differ in cassettes";
+    case HALYARD_SPACE: return "the lent space is too small";
+    case HALYARD_SHAFTS: return "a lift names a wrong shaft";
+    case HALYARD_SHAFT_EMPTY: return "the shaft left is empty";
+    case HALYARD_SHAFT_FULL: return "the shaft entered is full";
+    case HALYARD_UNREACHABLE: return "no list of lifts leads to the goal";
+    default: return "a number that no call returns";
+    }
+}
+
+/* Prints what a call answered: what it is good for, or why it is not. Gives
+ * whether it is good. */
+static int good(const char *call, uint64_t answer, const char *good_for)
+{
+    int number = halyard_number(answer);
+    if (number == HALYARD_OK) {
+        printf("%-10s %s\n", call, good_for);
+    } else {
+        printf("%-10s number %d, %s\n", call, number, meaning(number));
+    }
+    return number == HALYARD_OK;
+}
+
+static int checked(const char *name, const struct image *image)
+{
+    if (!good("check", halyard_check(image->bytes, image->len), "accepted")) {
+        return 0;
+    }
+    print_store(name, image);
+    return 1;
+}
+
+static int reachable(const struct image *start, const struct image *goal)
+{
+    return good("reachable",
+                halyard_reachable(start->bytes, start->len, goal->bytes,
+                                  goal->len),
+                "yes");
+}
+
+/* Does a list on a store, prints how far it went, and gives what stands then.
+ * The image has been checked and there is room, so that a store is written. */
+static struct image replayed(const struct image *start, const uint8_t *list,
+                             size_t list_len)
+{
+    struct image end;
+    uint64_t answer = halyard_replay(start->bytes, start->len, list, list_len,
+                                     end.bytes, sizeof end.bytes);
+    end.len = start->len;
+    if (!good("replay", answer, "every lift done")) {
+        printf("  lifts done before that: %" PRIu64 "\n", halyard_count(answer));
+    }
+    print_store("reached", &end);
+    return end;
+}
+
+static void print_lifts(const uint8_t *list, uint64_t count)
+{
+    uint64_t i;
+    for (i = 0; i < count; ++i) {
+        printf("  lift %" PRIu64 " from shaft %u to shaft %u\n", i + 1,
+               halyard_left(list[i]), halyard_entered(list[i]));
+    }
+}
+
+/* The whole use: from two images to a list that has been replayed. Gives
+ * whether it ended at the goal. */
+static int planned(const struct image *start, const struct image *goal,
+                   int lifts_wanted)
+{
+    static uint8_t list[HALYARD_LIST_MAX];
+    struct image end;
+    uint64_t answer;
+
+    if (!checked("start", start) || !checked("goal", goal) ||
+        !reachable(start, goal)) {
+        return 0;
+    }
+    answer = halyard_plan(start->bytes, start->len, goal->bytes, goal->len, list,
+                          sizeof list);
+    if (!good("plan", answer, "a list")) {
+        return 0;
+    }
+    if (lifts_wanted) {
+        print_lifts(list, halyard_count(answer));
+    }
+    end = replayed(start, list, (size_t)halyard_count(answer));
+    return memcmp(end.bytes, goal->bytes, goal->len) == 0;
+}
+
+/* Some of the ways in which a call is refused. */
+static void refusals(const struct image *start, const struct image *goal)
+{
+    static const uint8_t other_order[] = {2, 0, 5, 4, 3, 1, 0};
+    static const uint8_t list[] = {0x01, 0x10, 0x11};
+    struct image image = pack(2, 4, other_order);
+
+    printf("\nA goal out of reach\n");
+    print_store("goal", &image);
+    reachable(start, &image);
+
+    printf("\nNo space for the list\n");
+    good("plan",
+         halyard_plan(start->bytes, start->len, goal->bytes, goal->len, NULL, 0),
+         "a list");
+
+    printf("\nAn image without its last byte\n");
+    image.len -= 1;
+    checked("image", &image);
+
+    printf("\nA list whose third lift names one shaft twice\n");
+    replayed(start, list, sizeof list);
+}
+
+int main(void)
+{
+    static const uint8_t two[] = {1, 2, 3, 4, 0, 5, 0};
+    static const uint8_t two_goal[] = {1, 0, 5, 4, 3, 2, 0};
+    static const uint8_t three[] = {1, 4, 5, 6, 0, 2, 7, 8, 0, 3, 9, 0};
+    static const uint8_t three_goal[] = {1, 9, 0, 2, 6, 5, 4, 0, 3, 8, 7, 0};
+    struct image start = pack(2, 4, two);
+    struct image goal = pack(2, 4, two_goal);
+    struct image start3 = pack(3, 4, three);
+    struct image goal3 = pack(3, 4, three_goal);
+    int ended_at_goals;
+
+    printf("Two shafts of depth 4\n");
+    ended_at_goals = planned(&start, &goal, 1);
+
+    printf("\nThree shafts of depth 4, nine cassettes: at most %u lifts\n",
+           (unsigned)HALYARD_LIST_SPACE(4, 9));
+    ended_at_goals &= planned(&start3, &goal3, 0);
+
+    refusals(&start, &goal);
+    return ended_at_goals ? 0 : 1;
+}

@@ -1,0 +1,168 @@
+/*
+ * Halyardgage: plans the lifts of a sample changer.
+ *
+ * A store has m shafts, 1 to 16, all of depth h, 1 to 16. Shafts count from 0,
+ * rows from 1 at the bottom. A cassette is a number 1 to 255, and none stands
+ * twice. A lift takes the top cassette of one shaft and sets it on top of
+ * another.
+ *
+ * IMAGES. The calls take stores as images. Fields are packed most significant
+ * bit first, with no gaps: form (4 bits, value 0), m - 1 (4), h - 1 (4); then
+ * for each shaft from 0 its height (5) and its cassettes from row 1 upward (8
+ * each); then zero bits to the end of the byte. 02 11 00 81 00 20 60, in
+ * hexadecimal, is m = 3, h = 2, shafts [1 2] [] [3], bottom first.
+ *
+ * LISTS. A list is bytes, one for each lift: the shaft left in the high four
+ * bits, the shaft entered in the low four.
+ *
+ * ANSWERS. Each call returns count * 256 + number. halyard_number() and
+ * halyard_count() take the two apart. The number is HALYARD_OK, or says why
+ * the call was refused or where a replay stopped. If several reasons apply,
+ * the first one met is given:
+ *   - an image is read field by field, the start before the goal, and a fault
+ *     of reading comes before any other;
+ *   - for two stores then 8, 9, 10, 15;
+ *   - for a replay then 10, before any lift is tried, and for each lift 11,
+ *     13, 14.
+ * A refused call returns count 0 and writes nothing.
+ *
+ * WHAT THE CALLER OWES
+ *   - Each pointer has at least as many bytes as the length after it says. It
+ *     may be NULL where that length is 0.
+ *   - Bytes that a call may write (list of halyard_plan, out of
+ *     halyard_replay) overlap nothing else that is passed. Bytes that are only
+ *     read may overlap: start and goal may be the same bytes.
+ *   - No other thread writes to any of the bytes during the call.
+ * Lent space need not be cleared. Nothing else is asked: any bytes may be
+ * passed as an image or as a list, and a call refuses what is none.
+ *
+ * The library allocates nothing and keeps nothing between calls, so that any
+ * thread may call it at any time.
+ *
+ * Link libhalyardgage.a. It is for x86-64.
+ */
+#ifndef HALYARDGAGE_H
+#define HALYARDGAGE_H
+
+#include <stddef.h>
+#include <stdint.h>
+
+#ifdef __cplusplus
+extern "C" {
+#endif
+
+/* The numbers. */
+enum {
+    HALYARD_OK = 0, /* accepted; yes; a list; run through */
+
+    /* refused because of the input */
+    HALYARD_FORM = 1,              /* the image's form is not 0 */
+    HALYARD_IMAGE_ENDS = 2,        /* the image ends before its last field */
+    HALYARD_HEIGHT = 3,            /* a height above h */
+    HALYARD_CASSETTE_ZERO = 4,     /* a cassette number 0 */
+    HALYARD_CASSETTE_TWICE = 5,    /* a cassette that stood earlier */
+    HALYARD_TOO_MANY = 6,          /* more than 255 cassettes; the 256th is
+                                      already a 4 or a 5 */
+    HALYARD_PADDING = 7,           /* a padding bit set, or bytes after it */
+    HALYARD_SHAPES_DIFFER = 8,     /* start and goal differ in m or h */
+    HALYARD_CASSETTES_DIFFER = 9,  /* start and goal differ in cassettes */
+    HALYARD_SPACE = 10,            /* the lent space is too small */
+    HALYARD_SHAFTS = 11,           /* a lift names a shaft not below m, or one
+                                      shaft twice */
+    HALYARD_STORE_VALUE = 12,      /* a store that is no image is malformed:
+                                      no call here returns it */
+
+    /* refused because of the state */
+    HALYARD_SHAFT_EMPTY = 13, /* the shaft left is empty */
+    HALYARD_SHAFT_FULL = 14,  /* the shaft entered is full */
+    HALYARD_UNREACHABLE = 15  /* the goal is not reachable */
+};
+
+/* The longest image, in bytes. */
+#define HALYARD_IMAGE_MAX 267
+
+/* The list space that halyard_plan() asks for, in bytes, for shafts of depth h
+ * and n cassettes, and the most that it ever asks for. */
+#define HALYARD_LIST_SPACE(h, n) \
+    (4 * (size_t)(h) * (size_t)(n) + 8 * (size_t)(n))
+#define HALYARD_LIST_MAX 18360
+
+/* The number in an answer: HALYARD_OK or one of the others. */
+static inline int halyard_number(uint64_t answer)
+{
+    return (int)(answer % 256);
+}
+
+/* The count in an answer. */
+static inline uint64_t halyard_count(uint64_t answer)
+{
+    return answer / 256;
+}
+
+/* The shaft that a lift leaves. */
+static inline unsigned halyard_left(uint8_t lift)
+{
+    return lift / 16u;
+}
+
+/* The shaft that a lift enters. */
+static inline unsigned halyard_entered(uint8_t lift)
+{
+    return lift % 16u;
+}
+
+/*
+ * Is this the image of a store?
+ *
+ * Reads image. Writes nothing.
+ * Returns HALYARD_OK, or the first fault of reading, 1 to 7. The count is 0.
+ */
+uint64_t halyard_check(const uint8_t *image, size_t image_len);
+
+/*
+ * Does some list of lifts lead from start to goal?
+ *
+ * Reads start and goal. Writes nothing.
+ * Returns HALYARD_OK for yes and HALYARD_UNREACHABLE for no, or the first
+ * fault of reading, 1 to 7, or 8 or 9. The count is 0.
+ */
+uint64_t halyard_reachable(const uint8_t *start, size_t start_len,
+                           const uint8_t *goal, size_t goal_len);
+
+/*
+ * Writes a list of lifts that leads from start to goal.
+ *
+ * Reads start and goal. list_len must be at least HALYARD_LIST_SPACE(h, n);
+ * HALYARD_LIST_MAX is enough for every store.
+ * Returns HALYARD_OK and the count of lifts, which is at most
+ * HALYARD_LIST_SPACE(h, n); that many of the first bytes of list are then the
+ * list, and the rest stay as they came. Start equal to goal gives count 0.
+ * Otherwise it writes nothing and returns, with count 0, the first fault of
+ * reading, 1 to 7, or 8, 9, HALYARD_SPACE or HALYARD_UNREACHABLE.
+ */
+uint64_t halyard_plan(const uint8_t *start, size_t start_len,
+                      const uint8_t *goal, size_t goal_len,
+                      uint8_t *list, size_t list_len);
+
+/*
+ * Does the lifts of a list on a store, and writes the image of the store
+ * reached.
+ *
+ * Reads image and list. out_len must be at least image_len.
+ * Returns HALYARD_OK and list_len as the count where every lift was done. Where
+ * one could not be done, returns its number, 11, 13 or 14, and the count of
+ * lifts done before it; it has changed nothing. In both cases the first
+ * image_len bytes of out are then the image of the store reached, and the rest
+ * stay as they came.
+ * Otherwise it writes nothing and returns, with count 0, the first fault of
+ * reading, 1 to 7, or HALYARD_SPACE.
+ */
+uint64_t halyard_replay(const uint8_t *image, size_t image_len,
+                        const uint8_t *list, size_t list_len,
+                        uint8_t *out, size_t out_len);
+
+#ifdef __cplusplus
+}
+#endif
+
+#endif

@@ -1,0 +1,14 @@
+//! Stores, images, lifts, a full search and the reachability rule of document 01, written from that document alone.
+//!
+//! Nothing here is proved. The outside tests compare the proved library with it, and the tool and the benchmark use it.
+
+pub mod image;
+pub mod play;
+pub mod random;
+pub mod rule;
+pub mod search;
+pub mod store;
+pub mod text;
+
+pub use random::Random;
+pub use store::Store;

@@ -1,0 +1,48 @@
+//! The yes or no (document 01, "Which goals can be reached"), for two stores of equal shafts, depth and cassettes.
+
+use crate::store::Store;
+
+/// Some list of legal lifts leads from start to goal, by the rules of document 01.
+pub fn reachable(start: &Store, goal: &Store) -> bool {
+    match start.m() {
+        1 => start == goal,
+        2 => two_shaft_reading(start) == two_shaft_reading(goal),
+        _ => fixed_rows(start) == fixed_rows(goal),
+    }
+}
+
+/// Shaft 0 upward, then shaft 1 downward.
+pub fn two_shaft_reading(store: &Store) -> Vec<u8> {
+    let [up, down] = &store.shafts[..] else {
+        panic!("a reading of {} shafts", store.m());
+    };
+    up.iter().chain(down.iter().rev()).copied().collect()
+}
+
+/// The rows that never change where there are three shafts or more.
+fn fixed_rows(store: &Store) -> Vec<&[u8]> {
+    let rows = store.floor();
+    store.shafts.iter().map(|shaft| &shaft[..rows]).collect()
+}
+
+#[cfg(test)]
+mod tests {
+    use super::*;
+    use crate::text;
+
+    fn reaches(start: &str, goal: &str) -> bool {
+        reachable(&text::read(start).unwrap(), &text::read(goal).unwrap())
+    }
+
+    #[test]
+    fn stores_of_document_01() {
+        assert!(reaches("1x2: [1 2]", "1x2: [1 2]"));
+        assert!(!reaches("1x2: [1 2]", "1x2: [2 1]"));
+        assert!(reaches("2x3: [1 2] [3]", "2x3: [1] [3 2]"));
+        assert!(!reaches("2x3: [1 2] [3]", "2x3: [1] [2 3]"));
+        assert!(reaches("3x1: [1] [2] []", "3x1: [2] [1] []"));
+        let full = "3x4: [1 4 5 6] [2 7 8] [3 9]";
+        assert!(!reaches(full, "3x4: [2 4 5 6] [1 7 8] [3 9]"));
+        assert!(reaches(full, "3x4: [1 9] [2 6 5 4] [3 8 7]"));
+    }
+}

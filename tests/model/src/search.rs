@@ -1,0 +1,177 @@
+//! A full search, breadth first, over every store that lifts can reach.
+
+use crate::{image, play, store::Store};
+use std::collections::{HashMap, VecDeque};
+
+/// The stores found from a start, each by its image, with the lift that first reached it and the store that lift left.
+pub struct Search {
+    found: HashMap<Vec<u8>, usize>,
+    steps: Vec<Step>,
+    ended: bool,
+}
+
+struct Step {
+    from: usize,
+    lift: u8,
+}
+
+impl Search {
+    /// Searches until no store is left or more than `most` have been found.
+    pub fn all(start: &Store, most: usize) -> Search {
+        Search::run(start, None, most)
+    }
+
+    /// Searches until the goal is found, no store is left, or more than `most` have been found.
+    pub fn towards(start: &Store, goal: &Store, most: usize) -> Search {
+        Search::run(start, Some(image::write(goal)), most)
+    }
+
+    fn run(start: &Store, goal: Option<Vec<u8>>, most: usize) -> Search {
+        let mut search = Search {
+            found: HashMap::from([(image::write(start), 0)]),
+            steps: vec![Step { from: 0, lift: 0 }],
+            ended: true,
+        };
+        let mut waiting = VecDeque::from([start.clone()]);
+        let mut from = 0;
+        while let Some(store) = waiting.pop_front() {
+            if goal
+                .as_ref()
+                .is_some_and(|goal| search.found.contains_key(goal))
+            {
+                return search;
+            }
+            if search.count() > most {
+                search.ended = false;
+                return search;
+            }
+            for lift in play::legal_lifts(&store) {
+                waiting.extend(search.add(&store, from, lift));
+            }
+            from += 1;
+        }
+        search
+    }
+
+    /// The store after a lift, if it is a new one.
+    fn add(&mut self, store: &Store, from: usize, lift: u8) -> Option<Store> {
+        let mut next = store.clone();
+        play::lift(&mut next, lift).expect("a legal lift");
+        let image = image::write(&next);
+        if self.found.contains_key(&image) {
+            return None;
+        }
+        self.found.insert(image, self.count());
+        self.steps.push(Step { from, lift });
+        Some(next)
+    }
+
+    /// How many stores were found.
+    pub fn count(&self) -> usize {
+        self.steps.len()
+    }
+
+    /// The search did not stop for the count of stores.
+    pub fn ended(&self) -> bool {
+        self.ended
+    }
+
+    /// A store was found.
+    pub fn reaches(&self, goal: &Store) -> bool {
+        self.found.contains_key(&image::write(goal))
+    }
+
+    /// The images of the stores found.
+    pub fn images(&self) -> impl Iterator<Item = &Vec<u8>> {
+        self.found.keys()
+    }
+
+    /// A shortest list from the start to a store that was found.
+    pub fn list_to(&self, goal: &Store) -> Option<Vec<u8>> {
+        let mut at = *self.found.get(&image::write(goal))?;
+        let mut list = Vec::new();
+        while at != 0 {
+            list.push(self.steps[at].lift);
+            at = self.steps[at].from;
+        }
+        list.reverse();
+        Some(list)
+    }
+}
+
+/// Every store of `m` shafts of depth `h` with these cassettes.
+pub fn every_store(m: usize, h: usize, cassettes: &[u8]) -> Vec<Store> {
+    let mut stores = Vec::new();
+    extend_every(&Store::empty(m, h), 0, cassettes, &mut stores);
+    stores
+}
+
+/// Adds to `stores` each way to place the cassettes left in the shafts from `shaft` upward.
+fn extend_every(store: &Store, shaft: usize, left: &[u8], stores: &mut Vec<Store>) {
+    if shaft == store.m() {
+        if left.is_empty() {
+            stores.push(store.clone());
+        }
+        return;
+    }
+    extend_every(store, shaft + 1, left, stores);
+    if store.shafts[shaft].len() == store.depth {
+        return;
+    }
+    for i in 0..left.len() {
+        let mut next = store.clone();
+        let mut rest = left.to_vec();
+        next.shafts[shaft].push(rest.remove(i));
+        extend_every(&next, shaft, &rest, stores);
+    }
+}
+
+#[cfg(test)]
+mod tests {
+    use super::*;
+    use crate::text;
+
+    fn store(text: &str) -> Store {
+        text::read(text).unwrap()
+    }
+
+    #[test]
+    fn counts_of_stores() {
+        assert_eq!(every_store(3, 2, &[]).len(), 1);
+        assert_eq!(every_store(3, 1, &[7, 9]).len(), 6);
+        assert_eq!(every_store(2, 2, &[1, 2, 3]).len(), 12);
+        assert_eq!(every_store(3, 2, &[1, 2, 3, 4, 5, 6]).len(), 720);
+    }
+
+    #[test]
+    fn no_store_twice() {
+        let stores = every_store(3, 2, &[1, 2, 3, 4]);
+        let mut images: Vec<_> = stores.iter().map(image::write).collect();
+        images.sort();
+        images.dedup();
+        assert_eq!(images.len(), stores.len());
+    }
+
+    #[test]
+    fn shortest_list() {
+        let (start, goal) = (store("3x1: [1] [2] []"), store("3x1: [2] [1] []"));
+        let search = Search::towards(&start, &goal, 100);
+        assert!(search.ended());
+        assert_eq!(search.list_to(&goal).unwrap().len(), 3);
+        assert!(play::leads(&start, &search.list_to(&goal).unwrap(), &goal));
+    }
+
+    #[test]
+    fn a_search_that_finds_nothing_more() {
+        let search = Search::all(&store("1x2: [1 2]"), 100);
+        assert_eq!((search.count(), search.ended()), (1, true));
+        assert!(search.list_to(&store("1x2: [2 1]")).is_none());
+    }
+
+    #[test]
+    fn a_search_that_stops_at_its_limit() {
+        let start = store("3x3: [1 2 3] [4 5] []");
+        let search = Search::towards(&start, &store("3x3: [5 4 3] [2 1] []"), 10);
+        assert!(!search.ended());
+    }
+}

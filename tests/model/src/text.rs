@@ -1,0 +1,160 @@
+//! Stores as text such as `3x2: [1 2] [] [3]`: shafts, depth, and the cassettes of each shaft bottom first.
+//! Lists as text such as the program `plan` prints.
+
+use crate::play;
+use crate::store::{MOST_CASSETTE, MOST_DEPTH, MOST_SHAFTS, Store};
+
+/// The text of a store.
+pub fn write(store: &Store) -> String {
+    let shafts: Vec<String> = store
+        .shafts
+        .iter()
+        .map(|shaft| write_shaft(shaft))
+        .collect();
+    format!("{}x{}: {}", store.m(), store.depth, shafts.join(" "))
+}
+
+fn write_shaft(shaft: &[u8]) -> String {
+    let cassettes: Vec<String> = shaft.iter().map(u8::to_string).collect();
+    format!("[{}]", cassettes.join(" "))
+}
+
+/// The store of a text, or what is wrong with it.
+pub fn read(text: &str) -> Result<Store, String> {
+    let (shape, shafts) = text.split_once(':').ok_or("no ':' after the shape")?;
+    let (m, h) = shape.split_once('x').ok_or("the shape is not like 3x2")?;
+    let m = number(m, 1, MOST_SHAFTS)?;
+    let h = number(h, 1, MOST_DEPTH)?;
+    let store = Store {
+        depth: h,
+        shafts: read_shafts(shafts)?,
+    };
+    check(&store, m)?;
+    Ok(store)
+}
+
+fn read_shafts(mut text: &str) -> Result<Vec<Vec<u8>>, String> {
+    let mut shafts = Vec::new();
+    loop {
+        text = text.trim_start();
+        if text.is_empty() {
+            return Ok(shafts);
+        }
+        let (shaft, rest) = text
+            .strip_prefix('[')
+            .and_then(|text| text.split_once(']'))
+            .ok_or_else(|| format!("not a shaft like [1 2]: {text}"))?;
+        shafts.push(read_shaft(shaft)?);
+        text = rest;
+    }
+}
+
+fn read_shaft(text: &str) -> Result<Vec<u8>, String> {
+    text.split_whitespace()
+        .map(|word| Ok(number(word, 1, MOST_CASSETTE)? as u8))
+        .collect()
+}
+
+fn number(word: &str, least: usize, most: usize) -> Result<usize, String> {
+    word.trim()
+        .parse()
+        .ok()
+        .filter(|value| (least..=most).contains(value))
+        .ok_or_else(|| format!("not a number from {least} to {most}: {}", word.trim()))
+}
+
+/// The store has `m` shafts, none too high, and no cassette twice.
+fn check(store: &Store, m: usize) -> Result<(), String> {
+    if store.m() != m {
+        return Err(format!("{m} shafts are due, there are {}", store.m()));
+    }
+    if let Some(shaft) = store.shafts.iter().position(|s| s.len() > store.depth) {
+        return Err(format!("shaft {shaft} is higher than {}", store.depth));
+    }
+    match store.sorted().windows(2).find(|two| two[0] == two[1]) {
+        Some(two) => Err(format!("cassette {} stands twice", two[0])),
+        None => Ok(()),
+    }
+}
+
+/// A lift as `S>D`.
+pub fn write_lift(lift: u8) -> String {
+    let (left, entered) = play::shafts_of(lift);
+    format!("{left}>{entered}")
+}
+
+/// The list that the program `plan` printed: a line `lifts N`, then N lines `S>D`.
+pub fn read_list(text: &str) -> Result<Vec<u8>, String> {
+    let mut lines = text.lines();
+    let first = lines.next().unwrap_or("");
+    let count = first
+        .strip_prefix("lifts ")
+        .and_then(|count| count.parse::<usize>().ok())
+        .ok_or_else(|| format!("the first line is not like 'lifts 3': {first}"))?;
+    let list: Vec<u8> = lines.map(read_lift).collect::<Result<_, _>>()?;
+    if list.len() == count {
+        Ok(list)
+    } else {
+        Err(format!("{count} lifts are due, there are {}", list.len()))
+    }
+}
+
+fn read_lift(line: &str) -> Result<u8, String> {
+    let shafts = line
+        .split_once('>')
+        .ok_or_else(|| format!("not a lift like 0>2: {line}"))?;
+    let left = number(shafts.0, 0, MOST_SHAFTS - 1)?;
+    let entered = number(shafts.1, 0, MOST_SHAFTS - 1)?;
+    Ok(play::lift_byte(left, entered))
+}
+
+#[cfg(test)]
+mod tests {
+    use super::*;
+
+    #[test]
+    fn there_and_back() {
+        for text in ["3x2: [1 2] [] [3]", "1x1: []", "2x16: [255] [16 4 9]"] {
+            assert_eq!(write(&read(text).unwrap()), text);
+        }
+        let spaced = read(" 2 x 3 :[ 1  2 ][3]").unwrap();
+        assert_eq!(write(&spaced), "2x3: [1 2] [3]");
+    }
+
+    #[test]
+    fn wrong_texts() {
+        for text in [
+            "",
+            "3x2",
+            "3: [] [] []",
+            "3x2: [] []",
+            "2x2: [] [] []",
+            "0x2:",
+            "1x17: []",
+            "2x1: [1 2] []",
+            "2x2: [1] [1]",
+            "2x2: [0] []",
+            "2x2: [256] []",
+            "2x2: [1 []",
+            "2x2: [1] [2] 3",
+        ] {
+            assert!(read(text).is_err(), "{text}");
+        }
+    }
+
+    #[test]
+    fn printed_lists() {
+        assert_eq!(read_list("lifts 2\n0>2\n15>1\n"), Ok(vec![0x02, 0xF1]));
+        assert_eq!(read_list("lifts 0\n"), Ok(vec![]));
+        for text in [
+            "",
+            "refused 15 both\n",
+            "lifts 1\n",
+            "lifts 0\n0>1\n",
+            "lifts 1\n0-1\n",
+            "lifts 1\n16>0\n",
+        ] {
+            assert!(read_list(text).is_err(), "{text}");
+        }
+    }
+}

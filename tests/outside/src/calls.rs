@@ -1,0 +1,164 @@
+//! The four C calls, each on guarded bytes.
+
+use crate::guarded::Guarded;
+use halyard_model::Random;
+
+pub mod c {
+    //! As include/halyardgage.h declares them.
+    unsafe extern "C" {
+        pub fn halyard_check(image: *const u8, image_len: usize) -> u64;
+        pub fn halyard_reachable(
+            start: *const u8,
+            start_len: usize,
+            goal: *const u8,
+            goal_len: usize,
+        ) -> u64;
+        pub fn halyard_plan(
+            start: *const u8,
+            start_len: usize,
+            goal: *const u8,
+            goal_len: usize,
+            list: *mut u8,
+            list_len: usize,
+        ) -> u64;
+        pub fn halyard_replay(
+            image: *const u8,
+            image_len: usize,
+            list: *const u8,
+            list_len: usize,
+            out: *mut u8,
+            out_len: usize,
+        ) -> u64;
+    }
+}
+
+/// The two parts of what a call returns.
+#[derive(Clone, Copy, Debug, PartialEq, Eq)]
+pub struct Answer {
+    pub number: u8,
+    pub count: u64,
+}
+
+impl Answer {
+    pub fn of(number: u8, count: usize) -> Answer {
+        Answer {
+            number,
+            count: count as u64,
+        }
+    }
+
+    pub fn from_bits(bits: u64) -> Answer {
+        Answer {
+            number: bits as u8,
+            count: bits >> 8,
+        }
+    }
+}
+
+/// A call's answer, and the lent space after it.
+pub struct Written {
+    pub answer: Answer,
+    pub space: Guarded,
+}
+
+/// Makes the calls, with noise from a generator of its own, and sees after each that what it was given to read is unchanged.
+pub struct Caller {
+    random: Random,
+    guard: usize,
+    answers: [u64; 256],
+}
+
+impl Caller {
+    pub fn new(seed: u64, guard: usize) -> Caller {
+        Caller {
+            random: Random::new(seed),
+            guard,
+            answers: [0; 256],
+        }
+    }
+
+    /// How many answers had a number.
+    pub fn answers_with(&self, number: u8) -> u64 {
+        self.answers[usize::from(number)]
+    }
+
+    fn answer(&mut self, bits: u64) -> Answer {
+        let answer = Answer::from_bits(bits);
+        self.answers[usize::from(answer.number)] += 1;
+        answer
+    }
+
+    fn holding(&mut self, content: &[u8]) -> Guarded {
+        Guarded::holding(&mut self.random, self.guard, content)
+    }
+
+    fn space(&mut self, len: usize) -> Guarded {
+        Guarded::space(&mut self.random, self.guard, len)
+    }
+
+    pub fn check(&mut self, image: &[u8]) -> Answer {
+        let mut image = self.holding(image);
+        // SAFETY: the pointer has as many bytes as are named.
+        let bits = unsafe { c::halyard_check(image.pointer(), image.size()) };
+        assert!(image.kept_but(0), "check wrote to its image or beside it");
+        self.answer(bits)
+    }
+
+    pub fn reachable(&mut self, start: &[u8], goal: &[u8]) -> Answer {
+        let (mut start, mut goal) = (self.holding(start), self.holding(goal));
+        // SAFETY: each pointer has as many bytes as are named.
+        let bits = unsafe {
+            c::halyard_reachable(start.pointer(), start.size(), goal.pointer(), goal.size())
+        };
+        assert!(
+            start.kept_but(0),
+            "reachable wrote to its start or beside it"
+        );
+        assert!(goal.kept_but(0), "reachable wrote to its goal or beside it");
+        self.answer(bits)
+    }
+
+    pub fn plan(&mut self, start: &[u8], goal: &[u8], list_len: usize) -> Written {
+        let (mut start, mut goal) = (self.holding(start), self.holding(goal));
+        let mut list = self.space(list_len);
+        // SAFETY: each pointer has as many bytes as are named, and no two of them overlap.
+        let bits = unsafe {
+            c::halyard_plan(
+                start.pointer(),
+                start.size(),
+                goal.pointer(),
+                goal.size(),
+                list.pointer(),
+                list.size(),
+            )
+        };
+        assert!(start.kept_but(0), "plan wrote to its start or beside it");
+        assert!(goal.kept_but(0), "plan wrote to its goal or beside it");
+        Written {
+            answer: self.answer(bits),
+            space: list,
+        }
+    }
+
+    pub fn replay(&mut self, image: &[u8], list: &[u8], out_len: usize) -> Written {
+        let (mut image, mut list) = (self.holding(image), self.holding(list));
+        let mut out = self.space(out_len);
+        // SAFETY: each pointer has as many bytes as are named, and no two of them overlap.
+        let bits = unsafe {
+            c::halyard_replay(
+                image.pointer(),
+                image.size(),
+                list.pointer(),
+                list.size(),
+                out.pointer(),
+                out.size(),
+            )
+        };
+        assert!(image.kept_but(0), "replay wrote to its image or beside it");
+        assert!(list.kept_but(0), "replay wrote to its list or beside it");
+        Written {
+            answer: self.answer(bits),
+            space: out,
+        }
+    }
+}

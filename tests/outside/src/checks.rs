@@ -1,0 +1,81 @@
+//! One comparison of each call with what document 01 has it answer and write.
+
+use crate::calls::{Answer, Caller};
+use crate::expected;
+use halyard_model::{Store, image, play, text};
+
+/// Compares a check.
+pub fn check(caller: &mut Caller, bytes: &[u8]) {
+    let answer = caller.check(bytes);
+    assert_eq!(answer, expected::check(bytes), "check of {}", show(bytes));
+}
+
+/// Compares a yes or no and a plan, "no" by the rule.
+pub fn pair(caller: &mut Caller, start: &[u8], goal: &[u8], list_len: usize) {
+    let number = expected::reachable(start, goal);
+    reachable(caller, start, goal, number);
+    plan(caller, start, goal, list_len, number);
+}
+
+/// Compares a yes or no with the number that it should give.
+pub fn reachable(caller: &mut Caller, start: &[u8], goal: &[u8], number: u8) {
+    let answer = caller.reachable(start, goal);
+    let wanted = Answer::of(number, 0);
+    assert_eq!(answer, wanted, "reachable, {}", show_pair(start, goal));
+}
+
+/// Compares a plan, where `number` is what the yes or no should give.
+pub fn plan(caller: &mut Caller, start: &[u8], goal: &[u8], list_len: usize, number: u8) {
+    let written = caller.plan(start, goal, list_len);
+    let about = || format!("plan into {list_len} bytes, {}", show_pair(start, goal));
+    let (answer, list) = (written.answer, &written.space);
+    match expected::pair(start, goal) {
+        Ok((start, _)) if list_len < start.list_space() => {
+            assert_eq!(answer, Answer::of(10, 0), "{}", about());
+        }
+        Ok((start, goal)) if number == 0 => {
+            assert_eq!(answer.number, 0, "{}", about());
+            let count = length_of_list(answer, &start, &about);
+            let lifts = &list.content()[..count];
+            assert!(play::leads(&start, lifts, &goal), "{}", about());
+            assert!(start != goal || count == 0, "{}", about());
+        }
+        _ => assert_eq!(answer, Answer::of(number, 0), "{}", about()),
+    }
+    let count = answer.count as usize;
+    assert!(list.kept_but(count), "bytes past the list: {}", about());
+}
+
+/// The count of lifts of a list, which is within the bound.
+fn length_of_list(answer: Answer, start: &Store, about: &dyn Fn() -> String) -> usize {
+    let most = start.list_space();
+    assert!(answer.count <= most as u64, "{answer:?}: {}", about());
+    answer.count as usize
+}
+
+/// Compares a replay.
+pub fn replay(caller: &mut Caller, image: &[u8], list: &[u8], out_len: usize) {
+    let written = caller.replay(image, list, out_len);
+    let about = || format!("replay of {list:x?} into {out_len} bytes, {}", show(image));
+    let (answer, bytes) = expected::replay(image, list, out_len);
+    assert_eq!(written.answer, answer, "{}", about());
+    let out = &written.space;
+    assert_eq!(out.content()[..bytes.len()], bytes, "{}", about());
+    assert!(
+        out.kept_but(bytes.len()),
+        "bytes past the image: {}",
+        about()
+    );
+}
+
+/// A store's image, or the bytes that are none, for a person.
+fn show(bytes: &[u8]) -> String {
+    match image::read(bytes) {
+        Ok(store) => text::write(&store),
+        Err(number) => format!("{bytes:02x?}, which is {number}"),
+    }
+}
+
+fn show_pair(start: &[u8], goal: &[u8]) -> String {
+    format!("from {} to {}", show(start), show(goal))
+}

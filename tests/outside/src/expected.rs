@@ -1,0 +1,42 @@
+//! What document 01 has the calls answer, worked out from the model.
+
+use crate::calls::Answer;
+use halyard_model::{Store, image, play, rule};
+
+/// The answer of a check.
+pub fn check(bytes: &[u8]) -> Answer {
+    Answer::of(image::read(bytes).err().unwrap_or(0), 0)
+}
+
+/// Two stores to plan between, or the first of their faults: the start's, the goal's, 8, 9.
+pub fn pair(start: &[u8], goal: &[u8]) -> Result<(Store, Store), u8> {
+    let start = image::read(start)?;
+    let goal = image::read(goal)?;
+    if (start.m(), start.depth) != (goal.m(), goal.depth) {
+        return Err(8);
+    }
+    if start.sorted() != goal.sorted() {
+        return Err(9);
+    }
+    Ok((start, goal))
+}
+
+/// The number of a yes or no.
+pub fn reachable(start: &[u8], goal: &[u8]) -> u8 {
+    match pair(start, goal) {
+        Err(number) => number,
+        Ok((start, goal)) if rule::reachable(&start, &goal) => 0,
+        Ok(_) => 15,
+    }
+}
+
+/// What a replay answers and writes: nothing where it is refused.
+pub fn replay(image: &[u8], list: &[u8], out_len: usize) -> (Answer, Vec<u8>) {
+    let store = match image::read(image) {
+        Ok(_) if out_len < image.len() => return (Answer::of(10, 0), Vec::new()),
+        Ok(store) => store,
+        Err(number) => return (Answer::of(number, 0), Vec::new()),
+    };
+    let end = play::replay(&store, list);
+    (Answer::of(end.number, end.count), image::write(&end.store))
+}

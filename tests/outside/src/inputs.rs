@@ -1,0 +1,191 @@
+//! Random inputs for the calls: pairs of stores, damaged images, lists.
+
+use halyard_model::image::{self, Field};
+use halyard_model::store::{MOST_CASSETTE, MOST_DEPTH, MOST_SHAFTS};
+use halyard_model::{Random, Store, play};
+
+/// The most list space a plan can ask for.
+pub const MOST_LIST_SPACE: usize = 18_360;
+
+/// A store of any shape, or of the largest, with 0, 1, 2, h - 1, h, h + 1 or any number of empty slots.
+pub fn store(random: &mut Random) -> Store {
+    let (m, h) = shape(random);
+    let n = cassette_count(random, m, h);
+    random.store(m, h, n)
+}
+
+fn shape(random: &mut Random) -> (usize, usize) {
+    if random.below(8) == 0 {
+        return (MOST_SHAFTS, MOST_DEPTH);
+    }
+    (
+        random.from_to(1, MOST_SHAFTS),
+        random.from_to(1, MOST_DEPTH),
+    )
+}
+
+fn cassette_count(random: &mut Random, m: usize, h: usize) -> usize {
+    let many = random.below(m * h + 1);
+    let e = *random.one_of(&[0, 1, 2, h - 1, h, h + 1, many]);
+    (m * h).saturating_sub(e).min(MOST_CASSETTE)
+}
+
+/// A goal for a start: one that can be reached, the start itself, one just out of reach, any order of the same cassettes,
+/// or one of another shape or other cassettes.
+pub fn goal(random: &mut Random, start: &Store) -> Store {
+    match random.below(16) {
+        0..8 => random.reachable_goal(start),
+        8 => start.clone(),
+        9..12 => random
+            .unreachable_goal(start)
+            .unwrap_or_else(|| random.rearranged(start)),
+        12 => random.rearranged(start),
+        13 => other_shape(random, start),
+        14 => other_cassettes(random, start),
+        _ => store(random),
+    }
+}
+
+/// The same cassettes where they fit in a store with one shaft or one row more, or with shafts and depth exchanged.
+fn other_shape(random: &mut Random, start: &Store) -> Store {
+    let (m, h) = (start.m(), start.depth);
+    let (m, h) = *random.one_of(&[
+        ((m + 1).min(MOST_SHAFTS), h),
+        (m, (h + 1).min(MOST_DEPTH)),
+        (h, m),
+    ]);
+    let mut goal = random.store(m, h, start.n());
+    let mut cassettes = start.cassettes().into_iter();
+    for slot in goal.shafts.iter_mut().flatten() {
+        *slot = cassettes.next().expect("as many cassettes");
+    }
+    goal
+}
+
+/// The start with one cassette more, one less, or one that has changed its number.
+fn other_cassettes(random: &mut Random, start: &Store) -> Store {
+    let mut goal = random.reachable_goal(start);
+    let absent: Vec<u8> = (1..=MOST_CASSETTE as u8)
+        .filter(|cassette| !start.cassettes().contains(cassette))
+        .collect();
+    let at = random.below(goal.m());
+    let shaft = &mut goal.shafts[at];
+    if random.below(2) == 0 {
+        shaft.pop();
+    }
+    if shaft.len() < goal.depth && !absent.is_empty() {
+        shaft.push(*random.one_of(&absent));
+    }
+    goal
+}
+
+/// A lent length: what a plan asks for, a byte less, a little more or less, any, or the most.
+pub fn list_len(random: &mut Random, start: &Store) -> usize {
+    let need = start.list_space();
+    match random.below(8) {
+        0..3 => need,
+        3 => need.saturating_sub(1),
+        4 => need + random.from_to(1, 64),
+        5 => need.saturating_sub(random.from_to(2, 64)),
+        6 => random.below(need + 1),
+        _ => MOST_LIST_SPACE,
+    }
+}
+
+/// Bytes that are mostly no image: an image with something changed, cut off or added, or random bytes.
+pub fn damaged(random: &mut Random) -> Vec<u8> {
+    let store = store(random);
+    let mut bytes = image::write(&store);
+    match random.below(8) {
+        0..3 => bytes = with_a_field_changed(random, &store),
+        3 => flip_a_bit(random, &mut bytes),
+        4 => bytes.truncate(random.below(bytes.len())),
+        5 => extend(random, &mut bytes),
+        6 => last_bits(random, &mut bytes),
+        _ => bytes = random_bytes(random),
+    }
+    bytes
+}
+
+/// One field has any value, or the first cassette's, or the depth and one.
+fn with_a_field_changed(random: &mut Random, store: &Store) -> Vec<u8> {
+    let mut fields = image::fields(store);
+    let first_cassette = fields.iter().find(|field| field.width == 8).copied();
+    let at = random.below(fields.len());
+    let Field { width, .. } = fields[at];
+    fields[at].value = match (random.below(4), width, first_cassette) {
+        (0, 8, Some(first)) => first.value,
+        (1, 8, _) => 0,
+        (0, 5, _) => store.depth + 1,
+        _ => random.below(1 << width),
+    };
+    image::pack(&fields)
+}
+
+fn flip_a_bit(random: &mut Random, bytes: &mut [u8]) {
+    let bit = random.below(bytes.len() * 8);
+    bytes[bit / 8] ^= 128 >> (bit % 8);
+}
+
+/// Sets one of the last eight bits, which are padding or the last field's.
+fn last_bits(random: &mut Random, bytes: &mut [u8]) {
+    if let Some(last) = bytes.last_mut() {
+        *last |= 1 << random.below(8);
+    }
+}
+
+/// Adds zero bytes or noise.
+fn extend(random: &mut Random, bytes: &mut Vec<u8>) {
+    let more = random.from_to(1, 40);
+    let noise = random.bytes(more);
+    let zero = random.below(2) == 0;
+    bytes.extend(noise.iter().map(|&byte| if zero { 0 } else { byte }));
+}
+
+/// Random bytes, mostly with a form of 0.
+fn random_bytes(random: &mut Random) -> Vec<u8> {
+    let len = random.below(300);
+    let mut bytes = random.bytes(len);
+    if let Some(first) = bytes.first_mut()
+        && random.below(4) > 0
+    {
+        *first &= 0x0F;
+    }
+    bytes
+}
+
+/// Legal lifts from a store, as many as `most` or none where no lift is legal.
+pub fn legal_list(random: &mut Random, start: &Store, most: usize) -> Vec<u8> {
+    let mut store = start.clone();
+    let mut list = Vec::new();
+    while list.len() < most {
+        let legal = play::legal_lifts(&store);
+        if legal.is_empty() {
+            break;
+        }
+        let lift = *random.one_of(&legal);
+        play::lift(&mut store, lift).expect("a legal lift");
+        list.push(lift);
+    }
+    list
+}
+
+/// A list for a replay: legal lifts, often with one byte that may be none among them.
+pub fn list(random: &mut Random, start: &Store) -> Vec<u8> {
+    let most = random.below(60);
+    let mut list = legal_list(random, start, most);
+    if random.below(3) > 0 {
+        let at = random.below(list.len() + 1);
+        let byte = any_lift(random, start);
+        list.insert(at, byte);
+    }
+    list
+}
+
+/// Any byte, or one that names shafts of the store.
+fn any_lift(random: &mut Random, store: &Store) -> u8 {
+    if random.below(4) == 0 {
+        return random.byte();
+    }
+    play::lift_byte(random.below(store.m()), random.below(store.m()))
+}

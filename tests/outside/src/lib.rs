@@ -1,0 +1,8 @@
+//! The static library halyardgage held against the model, through its C calls.
+
+pub mod calls;
+pub mod checks;
+pub mod expected;
+pub mod guarded;
+pub mod inputs;
+pub mod rounds;

@@ -1,0 +1,84 @@
+//! Rounds of random comparisons. The tests do some with fixed seeds, the executable as many as it is told.
+
+use crate::calls::Caller;
+use crate::{checks, inputs};
+use halyard_model::{Random, image, play};
+
+/// A pair of stores through the yes or no, the plan, and the replay of what was planned.
+pub fn pair(caller: &mut Caller, random: &mut Random) {
+    let start = inputs::store(random);
+    let goal = inputs::goal(random, &start);
+    let list_len = inputs::list_len(random, &start);
+    let (start_image, goal_image) = (image::write(&start), image::write(&goal));
+    checks::pair(caller, &start_image, &goal_image, list_len);
+
+    let planned = caller.plan(&start_image, &goal_image, list_len);
+    let list = &planned.space.content()[..planned.answer.count as usize];
+    checks::replay(caller, &start_image, list, start_image.len());
+}
+
+/// Damaged bytes through every call that takes an image, in each place of one.
+pub fn damage(caller: &mut Caller, random: &mut Random) {
+    let (bytes, others) = (inputs::damaged(random), inputs::damaged(random));
+    let store = inputs::store(random);
+    let (image, list_len) = (image::write(&store), inputs::list_len(random, &store));
+    checks::check(caller, &bytes);
+    checks::check(caller, &image);
+    checks::pair(caller, &bytes, &image, list_len);
+    checks::pair(caller, &image, &bytes, list_len);
+    checks::pair(caller, &bytes, &others, list_len);
+    let list = inputs::list(random, &store);
+    let out_len = random.below(bytes.len() + 8);
+    checks::replay(caller, &bytes, &list, out_len);
+}
+
+/// A list, legal or not, through the replay, into space that is short, enough or more.
+pub fn replay(caller: &mut Caller, random: &mut Random) {
+    let store = inputs::store(random);
+    let list = inputs::list(random, &store);
+    let image = image::write(&store);
+    let out_len = match random.below(4) {
+        0 => random.below(image.len()),
+        1 => image.len() + random.from_to(1, 64),
+        _ => image.len(),
+    };
+    checks::replay(caller, &image, &list, out_len);
+}
+
+/// A plan into space of each length around the limit, and as long as the list itself is.
+pub fn list_lengths(caller: &mut Caller, random: &mut Random) {
+    let start = inputs::store(random);
+    let goal = random.reachable_goal(&start);
+    let (start_image, goal_image) = (image::write(&start), image::write(&goal));
+    let need = start.list_space();
+    let planned = caller.plan(&start_image, &goal_image, need);
+    let count = planned.answer.count as usize;
+    let around = need.saturating_sub(3)..need + 4;
+    for list_len in around.chain([0, count, count + 1]) {
+        checks::plan(caller, &start_image, &goal_image, list_len, 0);
+    }
+}
+
+/// A replay into space of each length around the limit, by a list that is legal and by one that stops.
+pub fn out_lengths(caller: &mut Caller, random: &mut Random) {
+    let store = inputs::store(random);
+    let image = image::write(&store);
+    let legal = inputs::legal_list(random, &store, 9);
+    let stopped = [&legal[..], &[play::lift_byte(0, 0)]].concat();
+    let around = image.len().saturating_sub(3)..image.len() + 4;
+    for out_len in around.chain([0, random.below(image.len())]) {
+        checks::replay(caller, &image, &legal, out_len);
+        checks::replay(caller, &image, &stopped, out_len);
+    }
+}
+
+/// One round of each kind.
+pub fn all(caller: &mut Caller, random: &mut Random) {
+    for _ in 0..4 {
+        pair(caller, random);
+        damage(caller, random);
+        replay(caller, random);
+    }
+    list_lengths(caller, random);
+    out_lengths(caller, random);
+}

@@ -1,0 +1,133 @@
+//! Random stores up to 16 x 16, damaged images, lists and lent lengths, from fixed seeds, and some inputs in full.
+
+use halyard_model::{Random, image};
+use halyard_outside::calls::Caller;
+use halyard_outside::{checks, guarded::GUARD, inputs, rounds};
+
+fn rounds(seed: u64, count: usize, round: fn(&mut Caller, &mut Random)) -> Caller {
+    let mut random = Random::new(seed);
+    let mut caller = Caller::new(random.word(), GUARD);
+    for _ in 0..count {
+        round(&mut caller, &mut random);
+    }
+    caller
+}
+
+/// Each of these numbers was answered often enough.
+fn met(caller: &Caller, numbers: &[u8], least: u64) {
+    for &number in numbers {
+        let answers = caller.answers_with(number);
+        assert!(answers >= least, "{number} was answered {answers} times");
+    }
+}
+
+#[test]
+fn pairs() {
+    let caller = rounds(21, 20_000, rounds::pair);
+    met(&caller, &[0, 8, 9, 10, 15], 500);
+}
+
+#[test]
+fn damage() {
+    let caller = rounds(22, 10_000, rounds::damage);
+    met(&caller, &[0, 1, 2, 3, 4, 5, 7, 10], 500);
+}
+
+#[test]
+fn replays() {
+    let caller = rounds(23, 20_000, rounds::replay);
+    met(&caller, &[0, 10, 11, 13, 14], 100);
+}
+
+#[test]
+fn list_lengths() {
+    let caller = rounds(24, 1_000, rounds::list_lengths);
+    met(&caller, &[0, 10], 1_000);
+}
+
+#[test]
+fn out_lengths() {
+    let caller = rounds(25, 1_000, rounds::out_lengths);
+    met(&caller, &[0, 10, 11], 1_000);
+}
+
+/// Every lent length from none to a little more than the limit.
+#[test]
+fn every_length() {
+    let mut random = Random::new(26);
+    let mut caller = Caller::new(26, GUARD);
+    for (m, h, n) in [(1, 3, 2), (2, 3, 4), (3, 2, 5), (3, 3, 6), (4, 2, 3)] {
+        let start = random.store(m, h, n);
+        let goal = random.reachable_goal(&start);
+        let (from, to) = (image::write(&start), image::write(&goal));
+        for list_len in 0..start.list_space() + 20 {
+            checks::plan(&mut caller, &from, &to, list_len, 0);
+        }
+        let list = inputs::legal_list(&mut random, &start, 5);
+        for out_len in 0..from.len() + 20 {
+            checks::replay(&mut caller, &from, &list, out_len);
+        }
+    }
+}
+
+/// Every prefix of an image, and images with many bytes after them.
+#[test]
+fn every_cut() {
+    let mut random = Random::new(27);
+    let mut caller = Caller::new(27, GUARD);
+    for (m, h, n) in [(1, 1, 0), (1, 1, 1), (3, 2, 3), (5, 7, 20), (16, 16, 255)] {
+        let image = image::write(&random.store(m, h, n));
+        for len in 0..=image.len() {
+            checks::check(&mut caller, &image[..len]);
+        }
+        for more in [1, 2, 300, 70_000] {
+            checks::check(&mut caller, &[&image[..], &vec![0; more]].concat());
+        }
+    }
+}
+
+/// All bytes of length 0, 1 and 2, and many of length 3.
+#[test]
+fn every_short_image() {
+    let mut random = Random::new(30);
+    let mut caller = Caller::new(30, GUARD);
+    checks::check(&mut caller, &[]);
+    for first in 0..=255 {
+        checks::check(&mut caller, &[first]);
+        for second in 0..=255 {
+            checks::check(&mut caller, &[first, second]);
+            checks::check(&mut caller, &[first, second, random.byte()]);
+        }
+    }
+}
+
+/// Every bit of an image changed, one at a time.
+#[test]
+fn every_bit() {
+    let mut random = Random::new(28);
+    let mut caller = Caller::new(28, GUARD);
+    for (m, h, n) in [(1, 1, 0), (3, 2, 3), (5, 7, 20), (16, 16, 255)] {
+        let image = image::write(&random.store(m, h, n));
+        for bit in 0..image.len() * 8 {
+            let mut changed = image.clone();
+            changed[bit / 8] ^= 128 >> (bit % 8);
+            checks::check(&mut caller, &changed);
+            checks::replay(&mut caller, &changed, &[], changed.len());
+        }
+    }
+}
+
+/// Counts past 255 and past 65,535.
+#[test]
+fn long_replays() {
+    let mut random = Random::new(29);
+    let mut caller = Caller::new(29, GUARD);
+    let store = random.store(3, 4, 7);
+    let image = image::write(&store);
+    for count in [255, 256, 257, 65_535, 65_536, 200_000] {
+        let mut list = inputs::legal_list(&mut random, &store, count);
+        checks::replay(&mut caller, &image, &list, image.len());
+        list.push(0x33);
+        checks::replay(&mut caller, &image, &list, image.len());
+    }
+}

@@ -1,0 +1,283 @@
+//! What the tool does for each of its commands.
+
+use crate::draw;
+use halyard_model::{Store, image, play, text};
+use std::fs;
+use std::io::Read;
+
+const HELP: &str = "\
+halyard: stores as text and as images, and lists played for a person to see
+
+  halyard image TEXT [FILE]        write the image of a store to FILE, or show its bytes in hexadecimal
+  halyard text STORE               show a store as text
+  halyard show STORE               draw a store
+  halyard play STORE LIST          draw a store, and again after each lift of a list
+  halyard play --end STORE LIST    draw a store only as the list leaves it
+  halyard leads START GOAL LIST    say whether a list leads from start to goal
+
+TEXT is such as '3x2: [1 2] [] [3]': shafts, depth, the cassettes of each shaft bottom first.
+STORE, START and GOAL are an image file or TEXT. LIST is a file that has what the program 'plan'
+printed, or '-' for standard input; with --bytes it has a byte for each lift, as the C calls write it.
+
+This tool is a convenience outside what is proved. It shares no code with the proved library, and
+nothing proves what it says. It ends with status 1 where something is wrong or refused.
+";
+
+/// What to print, and what went wrong after it.
+#[derive(Debug, PartialEq, Eq)]
+pub struct Said {
+    pub text: String,
+    pub wrong: Option<String>,
+}
+
+impl From<String> for Said {
+    fn from(text: String) -> Said {
+        Said { text, wrong: None }
+    }
+}
+
+/// Does what the words ask, or gives what is wrong with them.
+pub fn run(words: &[&str]) -> Result<Said, String> {
+    let (options, words): (Vec<&str>, Vec<&str>) =
+        words.iter().partition(|word| word.starts_with("--"));
+    let known: &[&str] = match words.first() {
+        Some(&"play") => &["--bytes", "--end"],
+        Some(&"leads") => &["--bytes"],
+        _ => &[],
+    };
+    if options.iter().any(|option| !known.contains(option)) {
+        return Err(format!("not understood\n\n{HELP}"));
+    }
+    let bytes = options.contains(&"--bytes");
+    match words[..] {
+        ["image", text] => Ok(hexadecimal(&image::write(&text::read(text)?)).into()),
+        ["image", text, file] => Ok(write_image(text, file)?.into()),
+        ["text", store] => Ok((text::write(&read_store(store)?) + "\n").into()),
+        ["show", store] => Ok(draw::store(&read_store(store)?, None).into()),
+        ["play", store, list] => {
+            let (store, list) = (read_store(store)?, read_list(list, bytes)?);
+            Ok(played(store, &list, options.contains(&"--end")))
+        }
+        ["leads", start, goal, list] => {
+            let (start, goal) = (read_store(start)?, read_store(goal)?);
+            Ok(leads(&start, &goal, &read_list(list, bytes)?)?.into())
+        }
+        [] | ["help"] => Ok(HELP.to_string().into()),
+        _ => Err(format!("not understood\n\n{HELP}")),
+    }
+}
+
+fn hexadecimal(bytes: &[u8]) -> String {
+    let words: Vec<String> = bytes.iter().map(|byte| format!("{byte:02x}")).collect();
+    words.join(" ") + "\n"
+}
+
+fn write_image(text: &str, file: &str) -> Result<String, String> {
+    let bytes = image::write(&text::read(text)?);
+    fs::write(file, &bytes).map_err(|wrong| format!("{file}: {wrong}"))?;
+    Ok(format!("{file}: {} bytes\n", bytes.len()))
+}
+
+fn read_file(file: &str) -> Result<Vec<u8>, String> {
+    fs::read(file).map_err(|wrong| format!("{file}: {wrong}"))
+}
+
+/// The store of an image file, or of a text, which has a bracket.
+fn read_store(word: &str) -> Result<Store, String> {
+    if word.contains('[') {
+        return text::read(word);
+    }
+    let refused = |number| format!("{word}: refused {number}, {}", meaning(number));
+    image::read(&read_file(word)?).map_err(refused)
+}
+
+fn read_list(file: &str, bytes: bool) -> Result<Vec<u8>, String> {
+    let mut content = Vec::new();
+    if file == "-" {
+        let read = std::io::stdin().read_to_end(&mut content);
+        read.map_err(|wrong| format!("standard input: {wrong}"))?;
+    } else {
+        content = read_file(file)?;
+    }
+    if bytes {
+        return Ok(content);
+    }
+    text::read_list(&String::from_utf8_lossy(&content))
+}
+
+/// The store drawn before and after each lift, or only at the end, up to a lift that is refused.
+fn played(mut store: Store, list: &[u8], end_only: bool) -> Said {
+    let mut shown = vec![format!("start\n{}", draw::store(&store, None))];
+    let mut wrong = None;
+    for (done, &lift) in list.iter().enumerate() {
+        match play::lift(&mut store, lift) {
+            Ok(cassette) => shown.push(draw_lift(&store, list, done, cassette)),
+            Err(number) => {
+                wrong = Some(stopped(&store, list, done, number));
+                break;
+            }
+        }
+    }
+    if end_only {
+        let done = shown.len() - 1;
+        shown = vec![format!("lifts done: {done}\n{}", draw::store(&store, None))];
+    }
+    Said {
+        text: shown.join("\n"),
+        wrong,
+    }
+}
+
+/// A store after a lift, with the cassette carried.
+fn draw_lift(store: &Store, list: &[u8], done: usize, cassette: u8) -> String {
+    let (left, entered) = play::shafts_of(list[done]);
+    format!(
+        "lift {} of {}: {cassette} from shaft {left} to shaft {entered}\n{}",
+        done + 1,
+        list.len(),
+        draw::store(store, Some(entered))
+    )
+}
+
+/// What to say of a replay that stopped.
+fn stopped(store: &Store, list: &[u8], done: usize, number: u8) -> String {
+    format!(
+        "lift {} of {}, {}, is refused {number}, {}, in {}",
+        done + 1,
+        list.len(),
+        text::write_lift(list[done]),
+        meaning(number),
+        text::write(store)
+    )
+}
+
+fn leads(start: &Store, goal: &Store, list: &[u8]) -> Result<String, String> {
+    let end = play::replay(start, list);
+    if end.number != 0 {
+        return Err(stopped(&end.store, list, end.count, end.number));
+    }
+    if end.store != *goal {
+        let (reached, goal) = (text::write(&end.store), text::write(goal));
+        return Err(format!("the list leads to {reached}, not to {goal}"));
+    }
+    Ok(format!("{} lifts lead to the goal\n", end.count))
+}
+
+/// What a number of document 01 says of an image or of a lift.
+fn meaning(number: u8) -> &'static str {
+    match number {
+        1 => "the form is not 0",
+        2 => "the image ends before its last field",
+        3 => "a height above the depth",
+        4 => "a cassette number 0",
+        5 => "a cassette that stood earlier",
+        7 => "a padding bit set, or bytes after the padding",
+        11 => "a shaft that is not there, or one shaft twice",
+        13 => "the shaft left is empty",
+        14 => "the shaft entered is full",
+        _ => "which no image and no lift gets",
+    }
+}
+
+#[cfg(test)]
+mod tests {
+    use super::*;
+
+    const EXAMPLE: &str = "3x2: [1 2] [] [3]";
+
+    /// A file that is removed when the test ends.
+    struct Scratch(String);
+
+    impl Scratch {
+        fn holding(name: &str, content: &[u8]) -> Scratch {
+            let name = format!("halyard-{}-{name}", std::process::id());
+            let path = std::env::temp_dir().join(name);
+            fs::write(&path, content).unwrap();
+            Scratch(path.to_str().unwrap().to_string())
+        }
+    }
+
+    impl Drop for Scratch {
+        fn drop(&mut self) {
+            fs::remove_file(&self.0).unwrap();
+        }
+    }
+
+    /// What the tool prints where nothing is wrong.
+    fn prints(words: &[&str]) -> String {
+        let said = run(words).unwrap();
+        assert_eq!(said.wrong, None);
+        said.text
+    }
+
+    #[test]
+    fn text_to_image_and_back() {
+        assert_eq!(prints(&["image", EXAMPLE]), "02 11 00 81 00 20 60\n");
+        let file = Scratch::holding("image", &[]);
+        let said = prints(&["image", EXAMPLE, &file.0]);
+        assert!(said.ends_with(": 7 bytes\n"), "{said}");
+        assert_eq!(prints(&["text", &file.0]), format!("{EXAMPLE}\n"));
+        assert_eq!(prints(&["show", &file.0]), prints(&["show", EXAMPLE]));
+    }
+
+    #[test]
+    fn a_refused_image() {
+        let file = Scratch::holding("refused", &[0x01, 0x11]);
+        let wrong = run(&["show", &file.0]).unwrap_err();
+        assert!(wrong.ends_with("refused 2, the image ends before its last field"));
+    }
+
+    #[test]
+    fn a_list_one_lift_at_a_time() {
+        let list = Scratch::holding("list", b"lifts 2\n0>1\n2>0\n");
+        let shown = prints(&["play", EXAMPLE, &list.0]);
+        let parts: Vec<&str> = shown.split("\n\n").collect();
+        assert_eq!(parts.len(), 3);
+        assert!(parts[1].starts_with("lift 1 of 2: 2 from shaft 0 to shaft 1\n"));
+        assert!(parts[1].contains("row  1 |    1 |   *2 |    3 |"));
+        assert!(parts[2].starts_with("lift 2 of 2: 3 from shaft 2 to shaft 0\n"));
+        assert!(parts[2].contains("row  2 |   *3 |      |      |"));
+    }
+
+    #[test]
+    fn only_the_end() {
+        let list = Scratch::holding("end", &[0x01, 0x20]);
+        let shown = prints(&["play", "--end", "--bytes", EXAMPLE, &list.0]);
+        let end = text::read("3x2: [1 3] [2] []").unwrap();
+        let drawn = draw::store(&end, None);
+        assert_eq!(shown, format!("lifts done: 2\n{drawn}"));
+    }
+
+    #[test]
+    fn a_list_that_stops() {
+        let list = Scratch::holding("stops", b"lifts 3\n0>1\n1>1\n0>1\n");
+        let wrong = "lift 2 of 3, 1>1, is refused 11, a shaft that is not there, \
+                     or one shaft twice, in 3x2: [1] [2] [3]";
+        let said = run(&["play", EXAMPLE, &list.0]).unwrap();
+        assert_eq!(said.wrong.as_deref(), Some(wrong));
+        assert_eq!(said.text.matches("shaft  ").count(), 2);
+        let said = run(&["play", "--end", EXAMPLE, &list.0]).unwrap();
+        assert!(said.text.starts_with("lifts done: 1\n"));
+        let leads = run(&["leads", EXAMPLE, EXAMPLE, &list.0]);
+        assert_eq!(leads, Err(wrong.to_string()));
+    }
+
+    #[test]
+    fn a_list_that_leads_to_one_goal() {
+        let list = Scratch::holding("leads", b"lifts 1\n0>1\n");
+        let said = prints(&["leads", EXAMPLE, "3x2: [1] [2] [3]", &list.0]);
+        assert_eq!(said, "1 lifts lead to the goal\n");
+        let other = run(&["leads", EXAMPLE, "3x2: [1] [] [3 2]", &list.0]);
+        assert!(other.is_err());
+        let refused = Scratch::holding("no-list", b"refused 15 both\n");
+        assert!(run(&["leads", EXAMPLE, EXAMPLE, &refused.0]).is_err());
+    }
+
+    #[test]
+    fn words_that_say_nothing() {
+        assert_eq!(prints(&["help"]), HELP);
+        for words in [&["fly"][..], &["show"], &["show", "--end", EXAMPLE]] {
+            assert!(run(words).is_err(), "{words:?}");
+        }
+    }
+}
