@@ -21,7 +21,7 @@ use Rattle.image.proofs.Nexts.{accepted}
 use Rattle.image.proofs.Outputs.{not-refused}
 use Rattle.image.proofs.RoundTrip.{written-read, read-written}
 
-length-bytes : (k : ℕ) (l : List Bool) → length (bytesOf k l) ≡ k
+pub length-bytes : (k : ℕ) (l : List Bool) → length (bytesOf k l) ≡ k
 unfolding bytesOf
 length-bytes zero l = refl
 length-bytes (suc k) l = ap suc (length-bytes k (drop 8 l))

@@ -22,8 +22,8 @@ use Rattle.rules.specs.Promises.{CompareIs, ReachIs}
 use Rattle.rules.proofs.Faults.{Marked, store-bytes}
 
 module _ (s t : Store) where
-  pub refused-as : (p : Pair) (r : Compared) → r .pair ≡ p → pairFault s t ≡ pairNumber p → (pairNumber p ≡ 0 → ⊥) → CompareIs s t r
-  refused-as p r e f n = record { pair = ap pairNumber e ∙ sym f; count = λ z. absurd (n (sym f ∙ z)) }
+  pub refused-as : (p : Pair) (r : Compared) → (r .pair ≡ p) × (r .n ≡ 0) → pairFault s t ≡ pairNumber p → (pairNumber p ≡ 0 → ⊥) → CompareIs s t r
+  refused-as p r e f n = record { pair = ap pairNumber (e .0) ∙ sym f; count = λ z. absurd (n (sym f ∙ z)); none = λ z. e .1 }
 
   -- the count of an accepted store's marks is the count of its cassettes
   pub compared-as : (n : ℕ) (v : List ℕ) → Comparable s t → ((i : ℕ) → getD (s .slots) i 0 < 256) → Marked s v → n ≡ markCount v
@@ -32,6 +32,7 @@ module _ (s t : Store) where
   compared-as n v p b m e = record {
     pair = sym (comparable-faultless s t p);
     count = λ z. e ∙ ap markCount (m .1) ∙ count-of (cassettes s) (store-bytes s b) (accepted-sound s (m .0) .once);
+    none = λ z. absurd (z (comparable-faultless s t p));
   }
 
   pub yes-by-rule : Comparable s t → Rule s t → ReachIs s t Reach.Yes

@@ -15,10 +15,11 @@ pub record Decides (r : Bool) (P : Type 0) : Type 0 where
   pub so : r ≡ true → P
   pub not-so : r ≡ false → P → ⊥
 
--- Two stores were compared: the number that refuses them, and n where none does.
+-- Two stores were compared: the number that refuses them, and n where none does, else 0.
 pub record CompareIs (s t : Store) (r : Compared) : Type 0 where
   pub pair : pairNumber (r .pair) ≡ pairFault s t
   pub count : pairFault s t ≡ 0 → r .n ≡ cassetteCount s
+  pub none : (pairFault s t ≡ 0 → ⊥) → r .n ≡ 0
 
 -- "It answers yes exactly if some list of legal lifts leads from start to goal; 15 exactly if none of any length does."
 pub record ReachIs (s t : Store) (r : Reach) : Type 0 where

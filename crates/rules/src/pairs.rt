@@ -40,7 +40,7 @@ fn same_marks(a: Marks, b: Marks) -> bool
 }
 
 fn refused(pair: Pair) -> Compared
-    ensures { λ r. ⌜ r .pair ≡ pair ⌝ }
+    ensures { λ r. ⌜ (r .pair ≡ pair) × (r .n ≡ 0) ⌝ }
 {
     Compared { pair, n: 0 }
 }

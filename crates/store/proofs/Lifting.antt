@@ -1,7 +1,8 @@
 -- How the functions that lift answer: the store they build is the definition's, and each answer has its number.
+use borrow.Author.Tests.{lt-ltb, le-ltb, le-leb, lt-leb}
 use mathlib.Core.List.{List}
 use mathlib.Core.Path.{_≡_, refl, sym, ap, ap₂, _∙_}
-use Prim.Native.Nat.{ℕ, zero, suc, _+_, _-_, _*_, _<_}
+use Prim.Native.Nat.{ℕ, zero, suc, _+_, _-_, _*_, _≤_, _<_}
 use native.Mathlib.Omega.{arith}
 use lib.ListN.{getD, set}
 use Rattle.store.specs.declared.Store.{Store}
@@ -9,7 +10,7 @@ use Rattle.store.specs.declared.Fault.{Fault}
 use Rattle.store.specs.declared.Refusal.{Refusal}
 use Rattle.store.specs.declared.Refusal.the-variants.{Shafts, Empty, Full}
 use Rattle.store.specs.declared.Answer.{Answer}
-use Rattle.store.specs.Slots.{height, slot}
+use Rattle.store.specs.Slots.{height, slot, contentOf}
 use Rattle.store.specs.Accept.{first, storeFault}
 use Rattle.store.specs.Lifts.{placedAt, liftRefusal, lifted, liftNumber, whenNone, afterLift}
 use Rattle.store.specs.Numbers.{faultNumber, refusalNumber, answerNumber}
@@ -22,6 +23,24 @@ slot-place : (s : Store) (x y : ℕ) → 0 < y → slot s x y ≡ getD (s .slots
 unfolding slot
 slot-place s x zero h = absurd (omega arith)
 slot-place s x (suc k) h = ap (λ (n : ℕ). getD (s .slots) (16 * x + n) 0) (omega arith)
+
+module _ (s : Store) (x y : ℕ) where
+  -- no such slot
+  pub content-past : 16 ≤ x → 0 ≡ contentOf s x y
+  unfolding contentOf
+  content-past h = simp (le-ltb x 16 h)
+
+  pub content-none : x < 16 → y ≡ 0 → 0 ≡ contentOf s x y
+  unfolding contentOf
+  content-none h e = simp (lt-ltb x 16 h, le-ltb 0 y (omega arith))
+
+  pub content-above : x < 16 → 16 < y → 0 ≡ contentOf s x y
+  unfolding contentOf
+  content-above h i = simp (lt-ltb x 16 h, lt-ltb 0 y (omega arith), lt-leb y 16 i)
+
+  pub content-at : x < 16 → 0 < y → y ≤ 16 → getD (s .slots) (16 * x + (y - 1)) 0 ≡ contentOf s x y
+  unfolding contentOf
+  content-at h i j = simp (lt-ltb x 16 h, lt-ltb 0 y i, le-leb y 16 j) (sym (slot-place s x y i))
 
 placed-place : (l : List ℕ) (x y c : ℕ) → 0 < y → placedAt l x y c ≡ set l (16 * x + (y - 1)) c
 unfolding placedAt

@@ -26,12 +26,8 @@ allBelow zero p = true
 allBelow (suc n) p = allBelow n p && p n
 
 -- how many slots of shaft x may hold something: as many as its height says, none where the shaft is not below m
-abbrev pub kept : Bool → ℕ → ℕ
-kept true k = k
-kept false k = 0
-
 abbrev pub usable : Store → ℕ → ℕ
-usable s x = kept (ltb x (s .m)) (height s x)
+usable s x = given (ltb x (s .m)) (height s x)
 
 -- row k + 1 of shaft x holds nothing, or may hold something
 abbrev pub slotInPlace : Store → ℕ → ℕ → Bool

@@ -2,13 +2,14 @@
 use crate::Answer;
 use crate::Lifted;
 use crate::Refusal;
+use crate::Row;
 use crate::Shaft;
 use crate::Store;
 use crate::Verdict;
 use crate::wide;
 ghost use mathlib.Core.Path.{_≡_};
 ghost use Prim.Native.Nat.{_≤_};
-ghost use Rattle.store.specs.Slots.{height};
+ghost use Rattle.store.specs.Slots.{height, contentOf};
 ghost use Rattle.store.specs.Lifts.{Allowed, liftRefusal, lifted};
 ghost use Rattle.store.specs.Numbers.{judgedNumber};
 ghost use Rattle.store.specs.Promises.{LiftIs};
@@ -77,6 +78,24 @@ impl Store {
     {
         let i = wide(x.0);
         if i < 16 { self.heights[i] } else { 0 }
+    }
+
+    // The content of a slot, 0 for an empty one and where there is no such slot.
+    pub fn content(self, x: Shaft, y: Row) -> u8
+        ensures { λ r. ⌜ r ≡ contentOf self (x .0) (y .0) ⌝ }
+    {
+        let i = wide(x.0);
+        let row = wide(y.0);
+        if 16 <= i {
+            return 0;
+        }
+        if row == 0 {
+            return 0;
+        }
+        if 16 < row {
+            return 0;
+        }
+        self.slots[16 * i + (row - 1)]
     }
 
     // One lift: the changed store, or the store as it came with the number that refuses it.

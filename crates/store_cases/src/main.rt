@@ -1,5 +1,6 @@
 // Runs stores, lifts and replays beyond the proved cases and prints the number that each gets (0: nothing refused). Held to the file stdout.
 use libc::STDOUT_FILENO;
+use store::Row;
 use store::Shaft;
 use store::Store;
 use store::number::answer_number;
@@ -98,8 +99,9 @@ fn replay(what: &[u8], s: Store, list: &[u8]) {
     io::write_all(STDOUT_FILENO, b"  lifts done: ");
     io::print_decimal(STDOUT_FILENO, replayed.count as u64);
     let reached = replayed.store;
-    say(b"\n  shaft 0 row 1: ", reached.slots[0]);
-    say(b"  shaft 1 row 1: ", reached.slots[16]);
+    say(b"\n  shaft 0 row 1: ", reached.content(Shaft(0), Row(1)));
+    say(b"  shaft 1 row 1: ", reached.content(Shaft(1), Row(1)));
+    say(b"  shaft 0 row 0: ", reached.content(Shaft(0), Row(0)));
 }
 
 fn main() {

@@ -1,0 +1,4 @@
+pub mod CallAnswers
+pub mod Kept
+pub mod Readings
+pub mod ReplayAnswers

@@ -1,0 +1,70 @@
+-- `halyard_replay` meets its contract: the image's fault, 10, or the replay's answer and the image of the store reached.
+use borrow.Author.Needs.{needs}
+use Prim.Native.Nat.{ℕ, _<_}
+use native.Mathlib.Omega.{arith}
+use lib.ListN.{getD}
+use Rattle.halyardgage.proofs.Readings.{Stands, number-read, stands}
+use Rattle.halyardgage.proofs.ReplayAnswers.{replay-refused, replay-little-space, replay-answered}
+use Rattle.halyardgage.proofs.halyard_replay.Statement.{statement}
+use Rattle.halyardgage.proofs.halyard_replay.Tie as tie
+
+-- the store that the image stands for
+start : (c : tie.Else1) → Stands (c .before .before .before .before .before .before .args .image .now) (c .before .before .read .result .store)
+start c = stands _ (c .before .before .read .ensures) (c .before .read-number .ensures) (c .if1 .left)
+
+-- the image is bytes
+bytes : (c : tie.Else1) (i : ℕ) → getD (c .before .before .before .before .before .before .args .image .now) i 0 < 256
+bytes c i = omega (arith, c .before .before .before .before .before .shared-slice-known .given i)
+
+read-requires : tie.Need-read-requires
+read-requires c κs = search needs
+
+read-number-requires : tie.Need-read-number-requires
+read-number-requires c κs = search needs
+
+cast-result : tie.Need-cast-result
+cast-result c = search needs
+
+returns : tie.Need-returns
+returns c = replay-refused (number-read _ (c .before .before .read .ensures) (c .before .read-number .ensures)) (c .if1 .taken)
+
+returns-2 : tie.Need-returns-2
+returns-2 c = replay-little-space (bytes (c .before)) (start (c .before)) (c .if2 .taken)
+
+replay-requires : tie.Need-replay-requires
+replay-requires c κs = search needs
+
+write-requires : tie.Need-write-requires
+write-requires c κs = search needs
+
+end-number-requires : tie.Need-end-number-requires
+end-number-requires c κs = search needs
+
+answer-requires : tie.Need-answer-requires
+answer-requires c κs = search needs
+
+same-length : tie.Need-same-length
+same-length c = search needs
+
+returns-3 : tie.Need-returns-3
+returns-3 c =
+    let w = c .before .before .before .before in
+    let r = w .before .before .before in
+    let e = r .before .before in
+    replay-answered (bytes (e .before)) (start (e .before)) (e .if2 .left) (r .replay .ensures) (w .write .ensures) (c .before .end-number .ensures) (c .answer .ensures)
+
+pub halyard-replay-spec : {M : Type 1} → statement M
+halyard-replay-spec =
+    tie.close
+    (tie.spec
+    read-requires
+    read-number-requires
+    cast-result
+    returns
+    returns-2
+    replay-requires
+    write-requires
+    end-number-requires
+    answer-requires
+    same-length
+    returns-3)

@@ -1,0 +1,97 @@
+// The calls for the controller's C program, on byte slices (document 01, "calls for the controller's C program on numbers and byte
+// slices"; the header is include/halyardgage.h). Each returns count × 256 + number.
+use image::number::read_number;
+use image::reading::read;
+use image::writing::write;
+use planner::make_list;
+use planner::number::plan_number;
+use rules::number::reach_number;
+use rules::reachable;
+use store::number::end_number;
+ghost use mathlib.Core.Path.{_≡_};
+ghost use Rattle.halyardgage.specs.Calls.{answerOf, readFault, ReachCallIs, PlanCallIs, ReplayCallIs};
+
+// The two parts of an answer put together.
+fn answer(count: usize, number: u8) -> u64
+    ensures { λ r. ⌜ r ≡ answerOf count number ⌝ }
+{
+    (count as u64) % 72057594037927936 * 256 + (number as u64)
+}
+
+// Whether an image is accepted.
+#[no_mangle]
+pub extern "C" fn halyard_check(image: &[u8]) -> u64
+    ensures { λ r. ⌜ r ≡ readFault (now (image .entry)) ⌝ }
+{
+    let one = read(image);
+    let verdict = one.answer;
+    read_number(verdict) as u64
+}
+
+// Whether some list of legal lifts leads from start to goal.
+#[no_mangle]
+pub extern "C" fn halyard_reachable(start: &[u8], goal: &[u8]) -> u64
+    ensures { λ r. ⌜ ReachCallIs (now (start .entry)) (now (goal .entry)) r ⌝ }
+{
+    let one = read(start);
+    let first = one.answer;
+    let number = read_number(first);
+    if number != 0 {
+        return number as u64;
+    }
+    let two = read(goal);
+    let second = two.answer;
+    let other = read_number(second);
+    if other != 0 {
+        return other as u64;
+    }
+    let s = one.store;
+    let t = two.store;
+    reach_number(reachable(s, t)) as u64
+}
+
+// Writes a list of lifts that leads from start to goal, or nothing.
+#[no_mangle]
+pub extern "C" fn halyard_plan(start: &[u8], goal: &[u8], list: &mut [u8]) -> u64
+    ensures { λ r. ⌜ PlanCallIs (now (start .entry)) (now (goal .entry)) (now (list .entry)) r (now (list .exit)) ⌝ }
+{
+    let one = read(start);
+    let first = one.answer;
+    let number = read_number(first);
+    if number != 0 {
+        return number as u64;
+    }
+    let two = read(goal);
+    let second = two.answer;
+    let other = read_number(second);
+    if other != 0 {
+        return other as u64;
+    }
+    let s = one.store;
+    let t = two.store;
+    let planned = make_list(s, t, list);
+    let made = planned.answer;
+    answer(planned.count, plan_number(made))
+}
+
+// Plays a list on a store and writes the store reached, or nothing.
+#[no_mangle]
+pub extern "C" fn halyard_replay(image: &[u8], list: &[u8], out: &mut [u8]) -> u64
+    ensures { λ r. ⌜ ReplayCallIs (now (image .entry)) (now (list .entry)) (now (out .entry)) r (now (out .exit)) ⌝ }
+{
+    let one = read(image);
+    let first = one.answer;
+    let number = read_number(first);
+    if number != 0 {
+        return number as u64;
+    }
+    if out.len() < image.len() {
+        return 10;
+    }
+    let s = one.store;
+    let replayed = s.replay(list);
+    let reached = replayed.store;
+    write(reached, out);
+    let end = replayed.end;
+    answer(replayed.count, end_number(end))
+}
