@@ -31,7 +31,7 @@ unfolding imageOf
 length-of-image s = length-bytes (imageLength s) _
 
 -- an accepted store, written into enough bytes, stands in the first
-pub image-written : (s : Store) (came out : List ℕ) (w : Written) → Accepted s → imageLength s ≤ length came → WriteIs s came out w
+image-written : (s : Store) (came out : List ℕ) (w : Written) → Accepted s → imageLength s ≤ length came → WriteIs s came out w
     → out ≡ written came 0 (imageOf s)
 unfolding written
 image-written s came out w e h p =

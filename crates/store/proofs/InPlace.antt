@@ -1,11 +1,11 @@
 -- When number 12 does not apply: each part of `inPlace`, and what it says of a store.
 use borrow.Author.Tests.{ltb-true, leb-true, eqb-true, lt-ltb, le-ltb, le-leb, lt-leb, eq-eqb}
-use mathlib.Core.Bool.{Bool, true, false, _&&_}
-use mathlib.Core.Path.{_≡_, refl, _∙_}
+use mathlib.Core.Bool.{Bool, true, false, _&&_, _||_}
+use mathlib.Core.Path.{_≡_, refl, sym, ap, _∙_}
 use Prim.Native.Nat.{ℕ, suc, _+_, _*_, _≤_, _<_}
 use native.Mathlib.Decide.{decLt}
 use native.Mathlib.Omega.{arith}
-use lib.Dec.{leb, eqb}
+use lib.Dec.{leb, ltb, eqb}
 use lib.ListN.{length, getD, List·getD-eq-default}
 use Rattle.store.specs.declared.Store.{Store}
 use Rattle.store.specs.Slots.{depth, height, slot}
@@ -35,6 +35,10 @@ four-true a b c d e =
 and-false : (t : Bool) → (t && false) ≡ false
 and-false true = refl
 and-false false = refl
+
+-- a slot tested with the usable rows of its shaft
+pub slot-tested : (s : Store) (x k : ℕ) {rows : ℕ} {r : Bool} → rows ≡ usable s x → r ≡ (ltb k rows || eqb (getD (s .slots) (16 * x + k) 0) 0) → slotInPlace s x k ≡ r
+slot-tested s x k {rows} e f = sym (f ∙ ap (λ (n : ℕ). ltb k n || eqb (getD (s .slots) (16 * x + k) 0) 0) e)
 
 module _ (s : Store) where
   -- "m or h outside 1 to 16"

@@ -11,12 +11,14 @@ use Rattle.store.specs.declared.Fault.{Fault}
 use Rattle.store.specs.declared.End.{End}
 use Rattle.store.specs.declared.Refusal.{Refusal}
 use Rattle.store.specs.Accept.{storeFault}
-use Rattle.store.specs.Lifts.{liftRefusal, lifted}
+use Rattle.store.specs.Lifts.{Allowed, refusalBy, liftRefusal, lifted}
 use Rattle.store.specs.Lists.{left, entered, Outcome, replayFrom, replay}
 use Rattle.store.specs.Numbers.{faultNumber, refusalNumber, endNumber}
 use Rattle.store.specs.Promises.{ReplayIs}
+use Rattle.store.specs.Sound.{Shaped}
 use Rattle.store.proofs.Checks.{fault-one}
 use Rattle.store.proofs.Lifting.{refusal-one}
+use Rattle.store.proofs.Refusals.{none-allowed}
 use Rattle.store.proofs.Replays.{replay-goes, replay-stops}
 
 -- an outcome with n lifts before it
@@ -47,9 +49,11 @@ answers o s t l n v p r z e = record {
   end = e ∙ ap (λ (o : Outcome). o .number) (sym p);
 }
 
--- the lift that a byte names
-pub same-lift : (t : Store) (b x y : ℕ) → x ≡ left b → y ≡ entered b → liftRefusal t x y ≡ liftRefusal t (left b) (entered b)
-same-lift t b x y e f = rw (e, f)
+-- the lift that a byte names, judged by the heights at i and j
+pub same-lift : (t : Store) (b x y i j : ℕ) → x ≡ left b → y ≡ entered b → i ≡ x → j ≡ y
+    → refusalBy (t .m) (t .h) x y (getD (t .heights) i 0) (getD (t .heights) j 0) ≡ liftRefusal t (left b) (entered b)
+unfolding liftRefusal
+same-lift t b x y i j e f g h = rw (g, h, e, f)
 
 module _ (s t : Store) (l : List ℕ) (n : ℕ) (p : Goes s l t n) where
   goes-on : n < length l → liftRefusal t (left (getD l n 0)) (entered (getD l n 0)) ≡ 0
@@ -78,6 +82,34 @@ module _ (s t : Store) (l : List ℕ) (n : ℕ) (p : Goes s l t n) where
   goes-through h =
       let o : Outcome = record { reached = t; count = 0; number = 0 } in
       answers o s t l n End.RunThrough (p ∙ ap (λ (k : List ℕ). after n (replayFrom t k)) (drop-of-length-le l h)) refl refl refl
+
+-- What a lift in place asks of the heights: two shafts, the first not empty, the second with room.
+pub record Ready (heights : List ℕ) (i j : ℕ) : Type 0 where
+  pub left-below : i < 16
+  pub entered-below : j < 16
+  pub taken : 0 < getD heights i 0
+  pub most : getD heights i 0 ≤ 16
+  pub room : getD heights j 0 < 16
+
+module _ (t : Store) (p : Shaped t) (x y i j : ℕ) (e : i ≡ x) (f : j ≡ y) (r : refusalBy (t .m) (t .h) x y (getD (t .heights) i 0) (getD (t .heights) j 0) ≡ 0) where
+  in-place : liftRefusal t i j ≡ 0
+  unfolding liftRefusal
+  in-place = rw (← e, ← f) at r
+
+  pub place-allowed : Allowed t i j
+  place-allowed = none-allowed t i j in-place
+
+  pub place-ready : Ready (t .heights) i j
+  place-ready =
+      let a = place-allowed in
+      let h = p .heights i in
+      record {
+        left-below = omega (arith, a .left-below, p .shafts);
+        entered-below = omega (arith, a .entered-below, p .shafts);
+        taken = a .taken;
+        most = omega (arith, h, p .rows);
+        room = omega (arith, a .room, p .rows);
+      }
 
 pub replay-refused : (s : Store) (l : List ℕ) (f : Fault) → storeFault s ≡ faultNumber f
     → ReplayIs (replay s l) (record { store = s; count = 0; end = End.StoreRefused f })

@@ -9,43 +9,41 @@ use lib.Dec.{leb, ltb, eqb}
 use Rattle.store.specs.declared.Store.{Store}
 use Rattle.store.specs.Slots.{depth, height}
 use Rattle.store.specs.Accept.{given, first}
-use Rattle.store.specs.Lifts.{Allowed, liftRefusal}
+use Rattle.store.specs.Lifts.{Allowed, refusalBy, liftRefusal}
 use Rattle.store.proofs.Faulted.{first-none, not-given, given-none, both-true}
 
+module _ (m d a b left entered : ℕ) where
+  pub left-past : m ≤ a → refusalBy m d a b left entered ≡ 11
+  unfolding refusalBy
+  left-past h = simp (le-ltb a m h)
+
+  pub entered-past : a < m → m ≤ b → refusalBy m d a b left entered ≡ 11
+  unfolding refusalBy
+  entered-past i h = simp (lt-ltb a m i, le-ltb b m h)
+
+  pub one-shaft : a < m → b < m → a ≡ b → refusalBy m d a b left entered ≡ 11
+  unfolding refusalBy
+  one-shaft i j h = simp (lt-ltb a m i, lt-ltb b m j, eq-eqb a b h)
+
+  module _ (i : a < m) (j : b < m) (n : a ≡ b → ⊥) where
+    pub left-empty : left ≡ 0 → refusalBy m d a b left entered ≡ 13
+    unfolding refusalBy
+    left-empty h = simp (lt-ltb a m i, lt-ltb b m j, ne-eqb a b n, eq-eqb left 0 h)
+
+    pub entered-full : (left ≡ 0 → ⊥) → d ≤ entered → refusalBy m d a b left entered ≡ 14
+    unfolding refusalBy
+    entered-full h k = simp (lt-ltb a m i, lt-ltb b m j, ne-eqb a b n, ne-eqb left 0 h, le-leb d entered k)
+
+    pub none-refused : (left ≡ 0 → ⊥) → entered < d → refusalBy m d a b left entered ≡ 0
+    unfolding refusalBy
+    none-refused h k = simp (lt-ltb a m i, lt-ltb b m j, ne-eqb a b n, ne-eqb left 0 h, lt-leb d entered k)
+
 module _ (s : Store) (a b : ℕ) where
-  pub left-past : s .m ≤ a → liftRefusal s a b ≡ 11
-  unfolding liftRefusal
-  left-past h = simp (le-ltb a (s .m) h)
-
-  pub entered-past : a < s .m → s .m ≤ b → liftRefusal s a b ≡ 11
-  unfolding liftRefusal
-  entered-past i h = simp (lt-ltb a (s .m) i, le-ltb b (s .m) h)
-
-  pub one-shaft : a < s .m → b < s .m → a ≡ b → liftRefusal s a b ≡ 11
-  unfolding liftRefusal
-  one-shaft i j h = simp (lt-ltb a (s .m) i, lt-ltb b (s .m) j, eq-eqb a b h)
-
-  module _ (i : a < s .m) (j : b < s .m) (n : a ≡ b → ⊥) where
-    pub left-empty : height s a ≡ 0 → liftRefusal s a b ≡ 13
-    unfolding liftRefusal
-    left-empty h = simp (lt-ltb a (s .m) i, lt-ltb b (s .m) j, ne-eqb a b n, eq-eqb (height s a) 0 h)
-
-    pub entered-full : (height s a ≡ 0 → ⊥) → depth s b ≤ height s b → liftRefusal s a b ≡ 14
-    unfolding liftRefusal
-    entered-full h k =
-        simp (lt-ltb a (s .m) i, lt-ltb b (s .m) j, ne-eqb a b n, ne-eqb (height s a) 0 h, le-leb (depth s b) (height s b) k)
-
   -- an allowed lift is not refused
   pub allowed-none : Allowed s a b → liftRefusal s a b ≡ 0
   unfolding liftRefusal
   allowed-none h =
-      simp (
-        lt-ltb a (s .m) (h .left-below),
-        lt-ltb b (s .m) (h .entered-below),
-        ne-eqb a b (h .differ),
-        ne-eqb (height s a) 0 (omega arith),
-        lt-leb (depth s b) (height s b) (h .room),
-      )
+      none-refused (s .m) (depth s b) a b (height s a) (height s b) (h .left-below) (h .entered-below) (h .differ) (omega arith) (h .room)
 
   -- a lift that is not refused is allowed
   pub none-allowed : liftRefusal s a b ≡ 0 → Allowed s a b

@@ -17,11 +17,15 @@ pub record Allowed (s : Store) (a b : ℕ) : Type 0 where
   pub taken : 0 < height s a
   pub room : height s b < depth s b
 
--- "11. A lift names a shaft not below m, or one shaft twice. 13. The shaft left is empty. 14. The shaft entered is full." 0: it is allowed.
+-- "11. A lift names a shaft not below m, or one shaft twice. 13. The shaft left is empty. 14. The shaft entered is full." 0: it is allowed. For m shafts,
+-- the shafts a and b with these heights, and the depth of b.
+unfoldable pub refusalBy : ℕ → ℕ → ℕ → ℕ → ℕ → ℕ → ℕ
+refusalBy m d a b left entered =
+    first (given (not ((ltb a m && ltb b m) && not (eqb a b))) 11) (first (given (eqb left 0) 13) (given (leb d entered) 14))
+
 unfoldable pub liftRefusal : Store → ℕ → ℕ → ℕ
-liftRefusal s a b =
-    first (given (not ((ltb a (s .m) && ltb b (s .m)) && not (eqb a b))) 11)
-    (first (given (eqb (height s a) 0) 13) (given (leb (depth s b) (height s b)) 14))
+unfolding refusalBy
+liftRefusal s a b = refusalBy (s .m) (depth s b) a b (height s a) (height s b)
 
 -- the slots with c at row y of shaft x
 unfoldable pub placedAt : List ℕ → ℕ → ℕ → ℕ → List ℕ

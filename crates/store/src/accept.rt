@@ -5,10 +5,12 @@ use crate::Marks;
 use crate::Store;
 use crate::Verdict;
 use crate::wide;
+ghost use mathlib.Core.Bool.{_||_};
 ghost use mathlib.Core.Path.{_≡_};
+ghost use lib.Dec.{ltb, eqb};
 ghost use Prim.Native.Nat.{suc, _≤_, _<_};
 ghost use Rattle.store.specs.Slots.{height, cassettesBelow, cassettes};
-ghost use Rattle.store.specs.Accept.{allBelow, usable, slotInPlace, shaftInPlace, inPlace, rowsFault, shaftsFault, storeFault};
+ghost use Rattle.store.specs.Accept.{allBelow, usable, shaftInPlace, inPlace, rowsFault, shaftsFault, storeFault};
 ghost use Rattle.store.specs.Marking.{noMarks, withMarks};
 ghost use Rattle.store.specs.Promises.{CheckIs};
 
@@ -20,14 +22,14 @@ fn usable_rows(s: Store, x: usize) -> usize
     if x < wide(s.m) { wide(s.heights[x]) } else { 0 }
 }
 
-fn slot_in_place(s: Store, x: usize, k: usize) -> bool
-    requires { ⌜ (x < 16) × (k < 16) ⌝ }
-    ensures { λ r. ⌜ r ≡ slotInPlace s x k ⌝ }
+// Whether row k + 1 of a shaft with so many usable rows holds nothing, or may hold something.
+fn slot_in_place(rows: usize, k: usize, c: u8) -> bool
+    ensures { λ r. ⌜ r ≡ (ltb k rows || eqb c 0) ⌝ }
 {
-    if k < usable_rows(s, x) {
+    if k < rows {
         return true;
     }
-    s.slots[16 * x + k] == 0
+    c == 0
 }
 
 // Whether nothing is recorded above a shaft's height, nor for a shaft not below m.
@@ -35,12 +37,13 @@ fn shaft_in_place(s: Store, x: usize) -> bool
     requires { ⌜ x < 16 ⌝ }
     ensures { λ r. ⌜ r ≡ shaftInPlace s x ⌝ }
 {
-    if usable_rows(s, x) < wide(s.heights[x]) {
+    let rows = usable_rows(s, x);
+    if rows < wide(s.heights[x]) {
         return false;
     }
     let mut k: usize = 0;
     while k < 16 {
-        if !slot_in_place(s, x, k) {
+        if !slot_in_place(rows, k, s.slots[16 * x + k]) {
             return false;
         }
         k += 1;

@@ -8,9 +8,8 @@ use crate::Store;
 use crate::Verdict;
 use crate::wide;
 ghost use mathlib.Core.Path.{_≡_};
-ghost use Prim.Native.Nat.{_≤_};
 ghost use Rattle.store.specs.Slots.{height, contentOf};
-ghost use Rattle.store.specs.Lifts.{Allowed, liftRefusal, lifted};
+ghost use Rattle.store.specs.Lifts.{Allowed, refusalBy, liftRefusal, lifted};
 ghost use Rattle.store.specs.Numbers.{judgedNumber};
 ghost use Rattle.store.specs.Promises.{LiftIs};
 ghost use Rattle.store.specs.Sound.{Shaped};
@@ -21,27 +20,33 @@ pub enum Judged {
     Refused(Refusal),
 }
 
-// Whether a lift is allowed in a store of at most 16 shafts, or else why not.
-pub fn judge(s: Store, from: Shaft, to: Shaft) -> Judged
-    requires { ⌜ s .m ≤ 16 ⌝ }
-    ensures { λ r. ⌜ judgedNumber r ≡ liftRefusal s (from .0) (to .0) ⌝ }
+// Whether a lift between two shafts of m, with these heights, the second of depth d, is allowed, or else why not.
+pub fn judge_heights(m: u8, d: u8, from: Shaft, to: Shaft, left: u8, entered: u8) -> Judged
+    ensures { λ r. ⌜ judgedNumber r ≡ refusalBy m d (from .0) (to .0) left entered ⌝ }
 {
-    if s.m <= from.0 {
+    if m <= from.0 {
         return Judged::Refused(Refusal::Shafts);
     }
-    if s.m <= to.0 {
+    if m <= to.0 {
         return Judged::Refused(Refusal::Shafts);
     }
     if from.0 == to.0 {
         return Judged::Refused(Refusal::Shafts);
     }
-    if s.height(from) == 0 {
+    if left == 0 {
         return Judged::Refused(Refusal::Empty);
     }
-    if s.h <= s.height(to) {
+    if d <= entered {
         return Judged::Refused(Refusal::Full);
     }
     Judged::Allowed
+}
+
+// Whether a lift is allowed in a store, or else why not.
+pub fn judge(s: Store, from: Shaft, to: Shaft) -> Judged
+    ensures { λ r. ⌜ judgedNumber r ≡ liftRefusal s (from .0) (to .0) ⌝ }
+{
+    judge_heights(s.m, s.h, from, to, s.height(from), s.height(to))
 }
 
 // The store after an allowed lift between two shafts.

@@ -24,7 +24,7 @@ enum-told : tie.Need-enum-told
 enum-told c = search needs
 
 judge-requires : tie.Need-judge-requires
-judge-requires c κs = accepted-shaped (c .before .before .before .args .self) (accepted-none _ _ _ (c .before .before .check .ensures) (c .enum-told .given .1) .0) .shafts
+judge-requires c κs = search needs
 
 enum-known-r : tie.Need-enum-known-r
 enum-known-r c = search needs
