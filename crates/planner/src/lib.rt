@@ -14,6 +14,7 @@ ghost use mathlib.Core.Path.{_≡_};
 ghost use Prim.Native.Nat.{_+_, _*_, _≤_};
 ghost use Rattle.planner.specs.Promises.{PlanIs};
 
+// How the list maker answers: a list, or refused with the number of the pair, 10 or 15.
 pub enum PlanAnswer {
     Listed,
     Refused(Pair),

@@ -14,26 +14,26 @@ use Rattle.store.specs.Slots.{cassettes}
 use Rattle.store.specs.Accept.{given, storeFault, Accepted}
 use Rattle.store.proofs.Acceptance.{accepted-sound}
 use Rattle.store.proofs.Faulted.{first-none, not-given, both-true}
-use Rattle.reach.specs.Pairs.{within, frameFault, cassettesFault, pairFault, SameCassettes, Comparable}
+use Rattle.reach.specs.Pairs.{allIn, frameFault, cassettesFault, pairFault, SameCassettes, Comparable}
 
 -- what stands in the one list stands in the other
 abbrev Subset : List ℕ → List ℕ → Type 0
 Subset k l = (c : ℕ) → 0 < count c k → 0 < count c l
 
-within-subset : (k l : List ℕ) → within k l ≡ true → Subset k l
-unfolding within count
-within-subset [] l e c h = absurd (omega arith)
-within-subset (x ∷ k) l e c h =
-    let p = both-true (ltb 0 (count x l)) (within k l) e in
+allIn-subset : (k l : List ℕ) → allIn k l ≡ true → Subset k l
+unfolding allIn count
+allIn-subset [] l e c h = absurd (omega arith)
+allIn-subset (x ∷ k) l e c h =
+    let p = both-true (ltb 0 (count x l)) (allIn k l) e in
     elim (ℕ-discrete c x) [
       | yes q ↦ rw q (ltb-true 0 (count x l) (p .0))
-      | no q ↦ within-subset k l (p .1) c (omega (arith, ap one (ne-eqb c x q)))
+      | no q ↦ allIn-subset k l (p .1) c (omega (arith, ap one (ne-eqb c x q)))
     ]
 
-subset-within : (k l : List ℕ) → Subset k l → within k l ≡ true
-unfolding within count
-subset-within [] l h = refl
-subset-within (x ∷ k) l h = simp (lt-ltb 0 (count x l) (h x (count-own x k)), subset-within k l λ c i. h c (omega arith))
+subset-allIn : (k l : List ℕ) → Subset k l → allIn k l ≡ true
+unfolding allIn count
+subset-allIn [] l h = refl
+subset-allIn (x ∷ k) l h = simp (lt-ltb 0 (count x l) (h x (count-own x k)), subset-allIn k l λ c i. h c (omega arith))
 
 -- lists in which no number stands twice and that hold the same numbers hold them equally often
 same-counts : (k l : List ℕ) → ((c : ℕ) → count c k ≤ 1) → ((c : ℕ) → count c l ≤ 1) → Subset k l → Subset l k
@@ -49,21 +49,21 @@ pub same-cassettes : (s t : Store) → SameCassettes s t → cassettesFault s t 
 unfolding cassettesFault
 same-cassettes s t h =
     rw (
-      subset-within (cassettes s) (cassettes t) (λ c i. omega (arith, h c)),
-      subset-within (cassettes t) (cassettes s) (λ c i. omega (arith, h c)),
+      subset-allIn (cassettes s) (cassettes t) (λ c i. omega (arith, h c)),
+      subset-allIn (cassettes t) (cassettes s) (λ c i. omega (arith, h c)),
     )
 
 pub cassettes-same : (s t : Store) → Accepted s → Accepted t → cassettesFault s t ≡ 0 → SameCassettes s t
 unfolding cassettesFault
 cassettes-same s t p q e =
-    let w = both-true (within (cassettes s) (cassettes t)) (within (cassettes t) (cassettes s)) (not-given _ 8 e) in
+    let w = both-true (allIn (cassettes s) (cassettes t)) (allIn (cassettes t) (cassettes s)) (not-given _ 8 e) in
     same-counts (cassettes s) (cassettes t) (accepted-sound s p .once) (accepted-sound t q .once)
-    (within-subset (cassettes s) (cassettes t) (w .0)) (within-subset (cassettes t) (cassettes s) (w .1))
+    (allIn-subset (cassettes s) (cassettes t) (w .0)) (allIn-subset (cassettes t) (cassettes s) (w .1))
 
 pub other-cassettes : (s t : Store) → Accepted s → Accepted t → (SameCassettes s t → ⊥) → cassettesFault s t ≡ 9
 unfolding cassettesFault
 other-cassettes s t p q n =
-    go (within (cassettes s) (cassettes t) && within (cassettes t) (cassettes s)) (λ e. n (cassettes-same s t p q e))
+    go (allIn (cassettes s) (cassettes t) && allIn (cassettes t) (cassettes s)) (λ e. n (cassettes-same s t p q e))
   where
     go : (b : Bool) → (given (not b) 9 ≡ 0 → ⊥) → given (not b) 9 ≡ 9
     go true n = absurd (n refl)

@@ -14,14 +14,14 @@ abbrev pub frameFault : Store → Store → ℕ
 frameFault s t = given (not (eqb (s .m) (t .m) && eqb (s .h) (t .h))) 8
 
 -- every cassette of the one list stands in the other
-unfoldable pub within : List ℕ → List ℕ → Bool
-within [] l = true
-within (c ∷ k) l = ltb 0 (count c l) && within k l
+unfoldable pub allIn : List ℕ → List ℕ → Bool
+allIn [] l = true
+allIn (c ∷ k) l = ltb 0 (count c l) && allIn k l
 
 -- "9. Start and goal differ in their set of cassettes."
 unfoldable pub cassettesFault : Store → Store → ℕ
-unfolding within
-cassettesFault s t = given (not (within (cassettes s) (cassettes t) && within (cassettes t) (cassettes s))) 9
+unfolding allIn
+cassettesFault s t = given (not (allIn (cassettes s) (cassettes t) && allIn (cassettes t) (cassettes s))) 9
 
 -- "For two stores: the start, the goal, 8, 9"
 unfoldable pub pairFault : Store → Store → ℕ

@@ -37,6 +37,7 @@ pub enum Fault {
     TooMany,
 }
 
+// Whether a store given as a value is accepted.
 pub enum Verdict {
     Accepted,
     Refused(Fault),
@@ -55,6 +56,7 @@ pub enum Refusal {
     Full,
 }
 
+// How a single lift is answered.
 pub enum Answer {
     Done,
     StoreRefused(Fault),

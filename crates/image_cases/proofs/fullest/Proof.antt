@@ -1,5 +1,5 @@
-use borrow.Author.Needs.{needs}
 -- `fullest` is safe and ends.
+use borrow.Author.Needs.{needs}
 use Prim.Native.Nat.{_-_, _≤_}
 use Rattle.image_cases.proofs.fullest.Statement.{statement}
 use Rattle.image_cases.proofs.fullest.Tie as tie
