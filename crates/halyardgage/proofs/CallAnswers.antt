@@ -1,6 +1,6 @@
 -- The answers of the calls on two images: a fault of the start's image, of the goal's, and where both are read, the answer on their stores.
-use mathlib.Core.List.{List}
-use mathlib.Core.Path.{_≡_, refl, sym, ap, ap₂, _∙_, subst₂}
+use mathlib.Core.List.{List, []}
+use mathlib.Core.Path.{_≡_, refl, sym, ap, ap₂, _∙_, subst, subst₂}
 use Prim.Native.Nat.{ℕ}
 use native.Mathlib.Omega.{arith}
 use lib.Dec.{ltb}
@@ -8,7 +8,7 @@ use lib.ListN.{length}
 use Rattle.store.specs.declared.Store.{Store}
 use Rattle.store.specs.Slots.{listSpace}
 use Rattle.store.specs.Accept.{given, first}
-use Rattle.store.specs.Lists.{Reachable}
+use Rattle.store.specs.Lists.{Reachable, ended}
 use Rattle.store.proofs.Faulted.{first-stays}
 use Rattle.reach.specs.Pairs.{pairFault}
 use Rattle.rules.specs.declared.Reach.{Reach}
@@ -65,6 +65,7 @@ module _ {a b : List ℕ} {k : ℕ} (p : Refused a b k) where
         refused = λ _. (sym f, refl);
         listed = λ z. absurd (p .one (sym f ∙ z));
         unreachable = λ z. absurd (p .one (sym f ∙ z));
+        nothing = λ z. absurd (p .one (sym f ∙ z));
       }
 
 -- an answer with no list is its number alone
@@ -82,6 +83,14 @@ with-list g h q = record {
   answer = h ∙ ap₂ answerOf (q .count) (g ∙ q .number);
   bytes = q .bytes;
 }
+
+-- a list that has no lift is the answer 0
+empty-list : {s t : Store} {n r : ℕ} {came out : List ℕ} {o : Planned} → n ≡ planNumber (o .answer) → r ≡ answerOf (o .count) n → o .count ≡ 0
+    → Lists s t came out o → r ≡ 0
+empty-list g h c q = h ∙ ap₂ answerOf c (g ∙ q .number) ∙ omega arith
+
+reaches-itself : {s t : Store} → s ≡ t → Reachable s t
+reaches-itself {s} w = subst (Reachable s) w (record { lifts = []; leads = ended })
 
 -- both images are read
 module _ {a b : List ℕ} {s t : Store} (e : Stands a s) (f : Stands b t) where
@@ -107,4 +116,7 @@ module _ {a b : List ℕ} {s t : Store} (e : Stands a s) (f : Stands b t) where
     unreachable =
         carried (λ o q. planOf came o q ≡ 0 → (Reachable (o .store) (q .store) → ⊥) → (r ≡ 15) × (out ≡ came))
         (λ z l. alone g h (p .unreachable z l));
+    nothing =
+        carried (λ o q. planOf came o q ≡ 0 → o .store ≡ q .store → r ≡ 0)
+        (λ z w. empty-list g h (p .nothing w) (p .listed z (reaches-itself w)));
   }

@@ -46,10 +46,12 @@ pub record ListCallIs (s t : Store) (came : List ℕ) (r : ℕ) (out : List ℕ)
   pub answer : r ≡ answerOf (length lifts) 0
   pub bytes : out ≡ written came 0 lifts
 
+-- demand 3, as the list maker has it; "Start equal to goal gives the empty list."
 pub record PlanCallIs (a b came : List ℕ) (r : ℕ) (out : List ℕ) : Type 0 where
   pub refused : (planCallFault a b came ≡ 0 → ⊥) → (r ≡ planCallFault a b came) × (out ≡ came)
   pub listed : planCallFault a b came ≡ 0 → Reachable (storeIn a) (storeIn b) → ListCallIs (storeIn a) (storeIn b) came r out
   pub unreachable : planCallFault a b came ≡ 0 → (Reachable (storeIn a) (storeIn b) → ⊥) → (r ≡ 15) × (out ≡ came)
+  pub nothing : planCallFault a b came ≡ 0 → storeIn a ≡ storeIn b → r ≡ 0
 
 -- "10 comes there before any lift is tried"
 abbrev pub replayCallFault : List ℕ → List ℕ → ℕ
