@@ -1,4 +1,5 @@
 pub mod CallAnswers
+pub mod CallExact
 pub mod Kept
 pub mod Readings
 pub mod ReplayAnswers

@@ -16,7 +16,7 @@ pub record Stands (a : List ℕ) (s : Store) : Type 0 where
 
 module _ (a : List ℕ) {r : Read} {k : ℕ} (p : ReadIs (readImage a) r) (e : k ≡ readNumber (r .answer)) where
   pub number-read : k ≡ readFault a
-  number-read = e ∙ p .answer
+  number-read = e ∙ p .answer .has
 
   pub stands : k ≡ 0 → Stands a (r .store)
   stands z = record { is = λ i. record { store = sym (p .store) i; number = (sym number-read ∙ z) i } }

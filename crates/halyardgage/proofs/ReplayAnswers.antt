@@ -77,5 +77,5 @@ module _ {a list came : List ℕ} where
           replayed = λ _.
               subst (λ (u : Store). (r ≡ answerOf (replay u list .count) (replay u list .number)) × (out ≡ written came 0 (imageOf (replay u list .reached))))
               (sym (ap (λ (o : Reading). o .store) (e .is)))
-              (k ∙ ap₂ answerOf (p .count) (g ∙ p .end), image-written t came out w (leads-accepted b l) j q′);
+              (k ∙ ap₂ answerOf (p .count) (g ∙ p .end .has), image-written t came out w (leads-accepted b l) j q′);
         }

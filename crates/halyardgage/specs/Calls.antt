@@ -1,16 +1,20 @@
--- What the C calls promise: by the same definitions as the library's own entries, with stores as images (document 01, "The image": "The C calls take
--- stores as images, read start first, and give faults of reading before any other").
+-- What the C calls promise: the library's own promises, with stores as images (document 01, "The image": "The C calls take stores as images, read start
+-- first, and give faults of reading before any other").
 use mathlib.Core.List.{List}
 use mathlib.Core.Path.{_≡_}
-use Prim.Native.Nat.{ℕ, _+_, _*_, _%_, _^_, _≤_}
+use Prim.Native.Nat.{ℕ, _+_, _*_, _%_, _^_}
 use lib.Dec.{ltb}
 use lib.ListN.{length}
 use Rattle.store.specs.declared.Store.{Store}
-use Rattle.store.specs.Slots.{listSpace}
 use Rattle.store.specs.Accept.{given, first}
-use Rattle.store.specs.Lists.{Leads, Reachable, replay}
-use Rattle.reach.specs.Pairs.{pairFault}
+use Rattle.store.specs.Lists.{replay}
 use Rattle.moves.specs.Written.{written}
+use Rattle.rules.specs.declared.Reach.{Reach}
+use Rattle.rules.specs.Numbers.{reachNumber}
+use Rattle.rules.specs.Promises.{ReachSays}
+use Rattle.planner.specs.declared.Planned.{Planned}
+use Rattle.planner.specs.Numbers.{planNumber}
+use Rattle.planner.specs.Promises.{PlanIs}
 use Rattle.image.specs.Image.{imageOf, imageLength}
 use Rattle.image.specs.Reading.{readImage}
 
@@ -25,33 +29,29 @@ storeIn bytes = readImage bytes .store
 abbrev pub readFault : List ℕ → ℕ
 readFault bytes = readImage bytes .number
 
--- the images first, then 8 and 9
-abbrev pub pairCallFault : List ℕ → List ℕ → ℕ
-pairCallFault a b = first (readFault a) (first (readFault b) (pairFault (storeIn a) (storeIn b)))
+-- "read start first"
+abbrev pub readFaults : List ℕ → List ℕ → ℕ
+readFaults a b = first (readFault a) (readFault b)
+
+-- The number of the yes or no on two stores.
+pub record ReachGives (s t : Store) (r : ℕ) : Type 0 where
+  pub answer : Reach
+  pub says : ReachSays s t answer
+  pub number : r ≡ reachNumber answer
 
 pub record ReachCallIs (a b : List ℕ) (r : ℕ) : Type 0 where
-  pub refused : (pairCallFault a b ≡ 0 → ⊥) → r ≡ pairCallFault a b
-  pub so : pairCallFault a b ≡ 0 → Reachable (storeIn a) (storeIn b) → r ≡ 0
-  pub not-so : pairCallFault a b ≡ 0 → (Reachable (storeIn a) (storeIn b) → ⊥) → r ≡ 15
+  pub unread : (readFaults a b ≡ 0 → ⊥) → r ≡ readFaults a b
+  pub answered : readFaults a b ≡ 0 → ReachGives (storeIn a) (storeIn b) r
 
--- then 10, where less than 4hn + 8n bytes are lent
-abbrev pub planCallFault : List ℕ → List ℕ → List ℕ → ℕ
-planCallFault a b came = first (pairCallFault a b) (given (ltb (length came) (listSpace (storeIn a))) 10)
+-- The count and the number of the list maker on two stores, and what it leaves in the lent bytes: demand 3.
+pub record PlanGives (s t : Store) (came out : List ℕ) (r : ℕ) : Type 0 where
+  pub planned : Planned
+  pub is : PlanIs s t came out planned
+  pub number : r ≡ answerOf (planned .count) (planNumber (planned .answer))
 
--- some list leads from start to goal, within the list space; it stands in the first bytes, and the answer has its length
-pub record ListCallIs (s t : Store) (came : List ℕ) (r : ℕ) (out : List ℕ) : Type 0 where
-  pub lifts : List ℕ
-  pub leads : Leads s lifts t
-  pub short : length lifts ≤ listSpace s
-  pub answer : r ≡ answerOf (length lifts) 0
-  pub bytes : out ≡ written came 0 lifts
-
--- demand 3, as the list maker has it; "Start equal to goal gives the empty list."
 pub record PlanCallIs (a b came : List ℕ) (r : ℕ) (out : List ℕ) : Type 0 where
-  pub refused : (planCallFault a b came ≡ 0 → ⊥) → (r ≡ planCallFault a b came) × (out ≡ came)
-  pub listed : planCallFault a b came ≡ 0 → Reachable (storeIn a) (storeIn b) → ListCallIs (storeIn a) (storeIn b) came r out
-  pub unreachable : planCallFault a b came ≡ 0 → (Reachable (storeIn a) (storeIn b) → ⊥) → (r ≡ 15) × (out ≡ came)
-  pub nothing : planCallFault a b came ≡ 0 → storeIn a ≡ storeIn b → r ≡ 0
+  pub unread : (readFaults a b ≡ 0 → ⊥) → (r ≡ readFaults a b) × (out ≡ came)
+  pub answered : readFaults a b ≡ 0 → PlanGives (storeIn a) (storeIn b) came out r
 
 -- "10 comes there before any lift is tried"
 abbrev pub replayCallFault : List ℕ → List ℕ → ℕ

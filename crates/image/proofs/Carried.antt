@@ -37,19 +37,19 @@ module _ (s : Store) (out next : List ℕ) (w : Written) (p : WriteIs s out next
       ∙ take-at (imageOf s) (drop (imageLength s) out) (w .count) (length-bytes (imageLength s) _ ∙ sym n)
 
   -- a store that was written is read as that store
-  pub written-then-read : (r : Read) → writeNumber (w .answer) ≡ 0 → ((i : ℕ) → getD (s .slots) i 0 < 256) → ReadIs (readImage (take (w .count) next)) r
+  pub written-then-read : (r : Read) → writeNumber (w .answer) ≡ 0 → ReadIs (readImage (take (w .count) next)) r
       → (r .store ≡ s) × (readNumber (r .answer) ≡ 0)
   unfolding writeRefusal
-  written-then-read r z small q =
-      let e : writeRefusal s (length out) ≡ 0 = sym (p .answer) ∙ z in
-      let f : readImage (take (w .count) next) ≡ accepted s = ap readImage (image-first e) ∙ written-read s (first-none (storeFault s) _ e .0) small in
-      (q .store ∙ ap (λ (o : Reading). o .store) f, q .answer ∙ ap (λ (o : Reading). o .number) f)
+  written-then-read r z q =
+      let e : writeRefusal s (length out) ≡ 0 = sym (p .answer .has) ∙ z in
+      let f : readImage (take (w .count) next) ≡ accepted s = ap readImage (image-first e) ∙ written-read s (first-none (storeFault s) _ e .0) in
+      (q .store ∙ ap (λ (o : Reading). o .store) f, q .answer .has ∙ ap (λ (o : Reading). o .number) f)
 
 -- an image that was accepted is written as the same bytes
 pub read-then-written : (bytes out next : List ℕ) (r : Read) (w : Written) → ((i : ℕ) → getD bytes i 0 < 256) → ReadIs (readImage bytes) r
     → readNumber (r .answer) ≡ 0 → imageLength (r .store) ≤ length out → WriteIs (r .store) out next w → (writeNumber (w .answer) ≡ 0) × (take (w .count) next ≡ bytes)
 read-then-written bytes out next r w small q z room p =
-    let f : readImage bytes ≡ accepted (r .store) = λ i. record { store = sym (q .store) i; number = (sym (q .answer) ∙ z) i } in
+    let f : readImage bytes ≡ accepted (r .store) = λ i. record { store = sym (q .store) i; number = (sym (q .answer .has) ∙ z) i } in
     let a = read-written bytes (r .store) small f in
     let e : writeRefusal (r .store) (length out) ≡ 0 = not-refused (r .store) out (a .0) room in
-    (p .answer ∙ e, image-first (r .store) out next w p e ∙ a .1)
+    (p .answer .has ∙ e, image-first (r .store) out next w p e ∙ a .1)

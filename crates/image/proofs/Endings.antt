@@ -20,6 +20,7 @@ use Rattle.image.specs.declared.reading.Work.{Work}
 use Rattle.image.specs.Numbers.{readNumber}
 use Rattle.image.specs.Reading.{Reading, unless, refused, fromField, next, emptyStore, padding, finish, readShafts, readBody, readForm, readSize}
 use Rattle.image.specs.Promises.{Marked, Reads, Ends, Finishes, ReadIs}
+use Rattle.image.proofs.Answered.{only-read}
 use Rattle.image.proofs.States.{failed, unless-one}
 
 -- what is left, by its length
@@ -129,9 +130,9 @@ module _ (o : Reading) (w : Work) (a : ReadAnswer) (p : Ends o w) (is : readNumb
   pub read-refused : (s : Store) → (w .fault ≡ 0 → ⊥) → s ≡ emptyStore 1 1 → ReadIs o (record { store = s; answer = a })
   read-refused s n e =
       let f : refused (w .fault) ≡ o = sym (unless-one (w .fault) (record { store = w .store; number = 0 }) (omega arith)) ∙ p .is in
-      record { store = e ∙ ap (λ (r : Reading). r .store) f; answer = is ∙ ap (λ (r : Reading). r .number) f }
+      record { store = e ∙ ap (λ (r : Reading). r .store) f; answer = only-read (is ∙ ap (λ (r : Reading). r .number) f) }
 
   pub read-accepted : w .fault ≡ 0 → ReadIs o (record { store = w .store; answer = a })
   read-accepted e =
       let f : record { store = w .store; number = 0 } ≡ o = sym (ap (λ (k : ℕ). unless k (record { store = w .store; number = 0 })) e) ∙ p .is in
-      record { store = ap (λ (r : Reading). r .store) f; answer = is ∙ e ∙ ap (λ (r : Reading). r .number) f }
+      record { store = ap (λ (r : Reading). r .store) f; answer = only-read (is ∙ e ∙ ap (λ (r : Reading). r .number) f) }

@@ -25,6 +25,7 @@ use Rattle.image.specs.declared.WriteAnswer.the-variants.{Whole, StoreRe
 use Rattle.image.specs.Image.{headBits, shaftBits, shaftsBits, imageBits, imageLength, imageOf}
 use Rattle.image.specs.Numbers.{writeNumber}
 use Rattle.image.specs.Writing.{writeRefusal, bytesAfter, countAfter, WriteIs}
+use Rattle.image.proofs.Answered.{only-write}
 
 pub no-rows : (s : Store) (x : ℕ) (out : List ℕ) (p : Pen) → p .full < 8 → Pushes (packed 8 (upward s x 0)) out out p p
 unfolding packed upward
@@ -64,7 +65,7 @@ none-written (suc k) s out n = refl
 pub refused-write : (s : Store) (out : List ℕ) (a : WriteAnswer) (k : ℕ) → writeRefusal s (length out) ≡ k → (k ≡ 0 → ⊥) → writeNumber a ≡ k
     → WriteIs s out out (record { count = 0; answer = a })
 refused-write s out a k e n f = record {
-  answer = f ∙ sym e;
+  answer = only-write (f ∙ sym e);
   count = none-counted k s n ∙ ap (λ (j : ℕ). countAfter j s) (sym e);
   bytes = none-written k s out n ∙ ap (λ (j : ℕ). bytesAfter j s out) (sym e);
 }
@@ -95,7 +96,7 @@ module _ (s : Store) (out : List ℕ) (e : Accepted s) (room : imageLength s ≤
       let n = length-append (imageBits s) (bits (h .zeros) 0) in
       let count : r .at ≡ imageLength s = omega (arith, all .count, h .whole, h .few) in
       record {
-        answer = sym not-refused;
+        answer = only-write (sym not-refused);
         count = count ∙ ap (λ (k : ℕ). countAfter k s) (sym not-refused);
         bytes =
             sym (take-append-drop (r .at) next)

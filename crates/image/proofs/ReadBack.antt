@@ -20,7 +20,7 @@ use Rattle.image.specs.Reading.{Rest, unless, placed, raised, takeCasset
 use Rattle.image.proofs.Cut.{cutAt, cut, cut-set, cut-over}
 use Rattle.image.proofs.Nexts.{next-reads}
 
-module _ (s : Store) (shaped : Shaped s) (small : (i : ℕ) → getD (s .slots) i 0 < 256) where
+module _ (s : Store) (shaped : Shaped s) where
   module _ (x : ℕ) (below : x < 16) where
     -- row k + 1 of shaft x
     row-back : (k : ℕ) (b : List ℕ) (r : List Bool) (c : Rest) → k < 16 → cassetteFault b (slot s x (suc k)) ≡ 0
@@ -32,7 +32,7 @@ module _ (s : Store) (shaped : Shaped s) (small : (i : ℕ) → getD (s .slots) 
         let e : placed t x k v ≡ cut s (suc x) (16 * x + suc k) =
         ap (λ (l : List ℕ). record { m = s .m; h = s .h; heights = cutAt 16 (suc x) (s .heights); slots = l })
         (cut-set 256 (s .slots) (shaped .slots-sized) (16 * x + k) (omega arith) ∙ ap (λ (p : ℕ). cutAt 256 p (s .slots)) (sym (add-suc (16 * x) k))) in
-        next-reads 8 v r (λ w q. takeCassette x k w b t q c) (small (16 * x + k))
+        next-reads 8 v r (λ w q. takeCassette x k w b t q c) (shaped .bytes (16 * x + k))
         ∙ ap (λ (n : ℕ). unless n (c (b ++ (v ∷ [])) (placed t x k v) r)) f
         ∙ ap (λ (u : Store). c (b ++ (v ∷ [])) u r) e
 

@@ -9,7 +9,7 @@ use native.Mathlib.Decide.{decLt}
 use native.Mathlib.Nat.{zero-lt-suc}
 use native.Mathlib.Omega.{arith}
 use lib.Dec.{ltb, eqb}
-use lib.ListN.{length, getD, drop, length-append}
+use lib.ListN.{length, getD, drop, replicate, length-append}
 use lib.Pow.{pow-pos}
 use lib.Seq.{take-all}
 use Rattle.bits.specs.Fields.{bits, field, bitsOf, bytesOf, byteCount}
@@ -17,11 +17,12 @@ use Rattle.bits.proofs.Widths.{length-bits, length-packed, field-bits, field-lt
 use Rattle.bits.proofs.Bytes.{padded, bytes-agree, bytes-back, padded-agrees}
 use Rattle.store.specs.declared.Store.{Store}
 use Rattle.store.specs.Slots.{height, slot, cassettesBelow, cassettes, cassetteCount}
-use Rattle.store.specs.Accept.{given, inPlace, shaftsFault, storeFault, Accepted}
+use Rattle.store.specs.Accept.{given, allBytes, inPlace, shaftsFault, storeFault, Accepted}
 use Rattle.store.specs.Sound.{Shaped}
 use Rattle.store.proofs.Acceptance.{accepted-sound}
 use Rattle.store.proofs.Faulted.{first-none, given-none, not-given, both-true}
 use Rattle.store.proofs.InPlace.{shaped-in-place}
+use Rattle.store.proofs.Typed.{bytes-at}
 use Rattle.image.specs.Image.{headBits, shaftsBits, imageBits, imageLength, imageOf}
 use Rattle.image.specs.Reading.{Reading, emptyStore, next, padding, endFault, finish, readBody, readDepth, readSize, readForm, readImage}
 use Rattle.image.proofs.Cut.{cutAt, cut, cut-over, cut-all, low-zero}
@@ -59,9 +60,9 @@ unfolding finish
 finishes b s l h p = simp (le-ltb 255 (length b) h, p)
 
 -- a store accepted, written and read is that store
-pub written-read : (s : Store) → Accepted s → ((i : ℕ) → getD (s .slots) i 0 < 256) → readImage (imageOf s) ≡ accepted s
+pub written-read : (s : Store) → Accepted s → readImage (imageOf s) ≡ accepted s
 unfolding readImage readBody imageOf imageLength imageBits headBits cassettes cassetteCount storeFault
-written-read s e small =
+written-read s e =
     let p = accepted-sound s e in
     let k = byteCount (length (imageBits s)) * 8 - length (imageBits s) in
     let pad = bits k 0 in
@@ -74,7 +75,7 @@ written-read s e small =
     ∙ next-reads 4 (s .m - 1) (bits 4 (s .h - 1) ++ (shafts ++ pad)) readDepth (omega (arith, p .shaped .shafts))
     ∙ next-reads 4 (s .h - 1) (shafts ++ pad) (λ n r. readBody (emptyStore (s .m - 1 + 1) (n + 1)) r) (omega (arith, p .shaped .rows))
     ∙ ap₂ (λ (n r : ℕ). readBody (emptyStore n r) (shafts ++ pad)) m h
-    ∙ shafts-back s (p .shaped) small (s .m) pad finish (p .shaped .shafts) (first-none (shaftsFault s (s .m)) _ (faults .1) .0)
+    ∙ shafts-back s (p .shaped) (s .m) pad finish (p .shaped .shafts) (first-none (shaftsFault s (s .m)) _ (faults .1) .0)
     ∙ finishes (cassettes s) (cut s (s .m) (16 * s .m)) pad (p .few) (zeros-pad k (omega arith))
     ∙ ap accepted (whole s (p .shaped))
 
@@ -121,6 +122,7 @@ module _ (s : Store) (m : ℕ) (few : m ≤ 16) (same : s .m ≡ m) (low : Low m
   low-shaped = record {
     heights-sized = low .heights-sized;
     slots-sized = low .slots-sized;
+    bytes = low .bytes;
     shafts = omega arith;
     rows = low .rows;
     heights = λ x. elim (decLt x m) [ yes h ↦ high x h | no h ↦ omega (arith, beyond x (omega arith)) ];
@@ -132,9 +134,16 @@ module _ (s : Store) (m : ℕ) (few : m ≤ 16) (same : s .m ≡ m) (low : Low m
   }
 
 body-read : (s : Store) (m h : ℕ) (l : List Bool) → m ≤ 16 → h ≤ 16 → readBody (emptyStore m h) l ≡ accepted s → Body s m h l
-unfolding readBody finish cassettes cassetteCount
+unfolding readBody finish cassettes cassetteCount allBytes
 body-read s m h l few rows e =
-    let low : Low 0 (emptyStore m h) = record { heights-sized = refl; slots-sized = refl; heights = refl; slots = refl; rows = rows } in
+    let low : Low 0 (emptyStore m h) = record {
+      heights-sized = refl;
+      slots-sized = refl;
+      bytes = bytes-at (replicate 256 0) refl;
+      heights = refl;
+      slots = refl;
+      rows = rows;
+    } in
     let p = shafts-read s (emptyStore m h) m l finish few low (λ b t r. finish-settles s m b t r) e in
     let f = unless-accepted (endFault (cassettesBelow s m) (p .left)) (accepted (cut s m (16 * m))) s (p .after) in
     let g = first-none (given (ltb 255 (length (cassettesBelow s m))) 6) _ (f .0) in

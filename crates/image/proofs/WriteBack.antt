@@ -10,11 +10,12 @@ use native.Mathlib.Omega.{arith}
 use lib.ListN.{length, getD, set, length-set, drop}
 use lib.Seq.{getD-set-same, getD-set-other}
 use Rattle.bits.specs.Fields.{bits, packed}
-use Rattle.bits.proofs.Widths.{packed-append}
+use Rattle.bits.proofs.Widths.{packed-append, field-lt}
 use Rattle.store.specs.declared.Store.{Store}
 use Rattle.store.specs.Slots.{height, slot, upward, cassettesBelow}
 use Rattle.store.specs.Accept.{cassetteFault, rowsFault, shaftsFault}
 use Rattle.store.proofs.Faulted.{given-none}
+use Rattle.store.proofs.Typed.{bytes-set}
 use Rattle.store.proofs.Walk.{row-passed, shaft-passed, by-rows}
 use Rattle.image.specs.Image.{shaftBits, shaftsBits}
 use Rattle.image.specs.Reading.{Rest, raised, takeCassette, readRow, readRows, readColumn, readShaft, readShafts}
@@ -25,6 +26,7 @@ use Rattle.image.proofs.Nexts.{accepted, unless-accepted, Took, took}
 pub record Low (x : ℕ) (t : Store) : Type 0 where
   pub heights-sized : length (t .heights) ≡ 16
   pub slots-sized : length (t .slots) ≡ 256
+  pub bytes : (i : ℕ) → getD (t .slots) i 0 < 256
   pub heights : cutAt 16 x (t .heights) ≡ t .heights
   pub slots : cutAt 256 (16 * x) (t .slots) ≡ t .slots
   pub rows : t .h ≤ 16
@@ -40,11 +42,13 @@ record Rows (s : Store) (x k : ℕ) (b : List ℕ) (t : Store) (l : List Bool) (
   after : c (b ++ upward (holding t slots) x k) (holding t slots) left ≡ accepted s
   begins : l ≡ packed 8 (upward (holding t slots) x k) ++ left
   sized : length slots ≡ 256
+  bytes : (i : ℕ) → getD slots i 0 < 256
   low : cutAt 256 (16 * x + k) slots ≡ slots
   under : cutAt 256 (16 * x) slots ≡ t .slots
   clean : (j : ℕ) → j < k → cassetteFault (b ++ upward (holding t slots) x j) (slot (holding t slots) x (suc j)) ≡ 0
 
-module _ (s : Store) (x : ℕ) (below : x < 16) (b : List ℕ) (t : Store) (l : List Bool) (sized : length (t .slots) ≡ 256) (low : cutAt 256 (16 * x) (t .slots) ≡ t .slots) where
+module _ (s : Store) (x : ℕ) (below : x < 16) (b : List ℕ) (t : Store) (l : List Bool) (sized : length (t .slots) ≡ 256) (bytes : (i : ℕ) → getD (t .slots) i 0 < 256)
+    (low : cutAt 256 (16 * x) (t .slots) ≡ t .slots) where
   one-row : (k : ℕ) (c : Rest) → k < 16 → Rows s x k b t l (λ d u r. readRow x k d u r c) → Rows s x (suc k) b t l c
   unfolding upward slot packed
   one-row k c h r = go (took 8 (r .left) _ s (r .after))
@@ -77,6 +81,7 @@ module _ (s : Store) (x : ℕ) (below : x < 16) (b : List ℕ) (t : Store) (l : 
                 (packed-append 8 (upward u x k) (v ∷ []) ∙ ap (λ (q : List Bool). packed 8 (upward u x k) ++ q) (append-nil (bits 8 v)))
                 ∙ append-assoc (packed 8 (upward u x k)) (bits 8 v) (drop 8 (r .left)));
             sized = length-set (r .slots) i v ∙ r .sized;
+            bytes = bytes-set (r .slots) i v (rw (f .is .value) (field-lt _ 8)) (r .bytes);
             low = ap (λ (n : ℕ). cutAt 256 n new) (add-suc (16 * x) k) ∙ low-set 256 (r .slots) i v (r .sized) (omega arith) (r .low);
             under = cut-before 256 (r .slots) (r .sized) (16 * x) i v (omega arith) ∙ r .under;
             clean = λ j g.
@@ -99,6 +104,7 @@ module _ (s : Store) (x : ℕ) (below : x < 16) (b : List ℕ) (t : Store) (l : 
     after = ap (λ (d : List ℕ). c d t l) (append-nil b) ∙ e;
     begins = refl;
     sized = sized;
+    bytes = bytes;
     low = ap (λ (n : ℕ). cutAt 256 n (t .slots)) (add-zero (16 * x)) ∙ low;
     under = low;
     clean = λ j g. absurd (not-suc-le-zero g);
@@ -126,7 +132,7 @@ shaft-read s x b t l c below low e = go (took 5 l (λ v q. readColumn x v b t q 
         let v = f .v in
         let p = unless-accepted _ _ s (f .after) in
         let h : v ≤ t .h = ltb-false (t .h) v (given-none _ 2 (p .0)) in
-        let r = rows-read s x below b (raised t x v) (drop 5 l) (low .slots-sized) (low .slots) v c (omega (arith, low .rows)) (p .1) in
+        let r = rows-read s x below b (raised t x v) (drop 5 l) (low .slots-sized) (low .bytes) (low .slots) v c (omega (arith, low .rows)) (p .1) in
         let new = holding (raised t x v) (r .slots) in
         let is : height new x ≡ v = getD-set-same (t .heights) x v 0 (omega (arith, low .heights-sized)) in
         let whole : 16 * suc x ≡ 16 * x + v + (16 - v) = omega (arith, mul-suc 16 x, low .rows) in
@@ -140,6 +146,7 @@ shaft-read s x b t l c below low e = go (took 5 l (λ v q. readColumn x v b t q 
           low = record {
             heights-sized = length-set (t .heights) x v ∙ low .heights-sized;
             slots-sized = r .sized;
+            bytes = r .bytes;
             heights = low-set 16 (t .heights) x v (low .heights-sized) below (low .heights);
             slots = ap (λ (n : ℕ). cutAt 256 n (r .slots)) whole ∙ low-over 256 (r .slots) (16 * x + v) (16 - v) (r .sized) (omega arith) (r .low);
             rows = low .rows;

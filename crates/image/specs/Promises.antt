@@ -5,16 +5,17 @@ use Prim.Native.Nat.{ℕ, _+_, _≤_, _<_}
 use lib.ListN.{drop}
 use Rattle.stacks.specs.Count.{count}
 use Rattle.store.specs.Marking.{noMarks, withMarks}
+use Rattle.store.specs.Numbers.{Only}
 use Rattle.bits.specs.Fields.{bitsOf}
 use Rattle.image.specs.declared.Read.{Read}
 use Rattle.image.specs.declared.reading.Work.{Work}
 use Rattle.image.specs.Numbers.{readNumber}
 use Rattle.image.specs.Reading.{Reading, Rest, Part, unless, finish}
 
--- A reading of bytes gave its store, and its number.
+-- A reading of bytes gave its store, and the answer with its number.
 pub record ReadIs (o : Reading) (r : Read) : Type 0 where
   pub store : r .store ≡ o .store
-  pub answer : readNumber (r .answer) ≡ o .number
+  pub answer : Only readNumber (o .number) (r .answer)
 
 -- The words mark the cassettes of a list, each once.
 pub record Marked (words l : List ℕ) : Type 0 where

@@ -6,6 +6,7 @@ use lib.Dec.{ltb}
 use lib.ListN.{length, drop}
 use Rattle.store.specs.declared.Store.{Store}
 use Rattle.store.specs.Accept.{given, first, storeFault}
+use Rattle.store.specs.Numbers.{Only}
 use Rattle.image.specs.declared.Written.{Written}
 use Rattle.image.specs.Image.{imageLength, imageOf}
 use Rattle.image.specs.Numbers.{writeNumber}
@@ -24,8 +25,8 @@ abbrev pub countAfter : ℕ → Store → ℕ
 countAfter zero s = imageLength s
 countAfter (suc k) s = 0
 
--- Writing a store into `out` gave its number and count, and left the bytes `next`.
+-- Writing a store into `out` gave the answer with its number and the count, and left the bytes `next`.
 pub record WriteIs (s : Store) (out next : List ℕ) (r : Written) : Type 0 where
-  pub answer : writeNumber (r .answer) ≡ writeRefusal s (length out)
+  pub answer : Only writeNumber (writeRefusal s (length out)) (r .answer)
   pub count : r .count ≡ countAfter (writeRefusal s (length out)) s
   pub bytes : next ≡ bytesAfter (writeRefusal s (length out)) s out

@@ -7,7 +7,7 @@ use native.Mathlib.Omega.{arith}
 use lib.ListN.{length, length-append, length-map}
 use Rattle.stacks.specs.Run.{Lift}
 use Rattle.store.specs.declared.Store.{Store}
-use Rattle.store.specs.Lists.{Leads, ended, byteOf, bytesOf}
+use Rattle.store.specs.Lists.{Leads, ended, byteOf, liftBytes}
 use Rattle.store.proofs.Played.{leads-then}
 use Rattle.moves.specs.Written.{written, Steps}
 use Rattle.moves.proofs.Writing.{written-nothing, length-written, followed}
@@ -22,8 +22,8 @@ pub steps-bytes : {s t : Store} {at n at′ : ℕ} {came out bs : List ℕ} → 
 steps-bytes {bs = bs} r h e = record { lifts = bs; leads = r; count = omega arith; bytes = e .1 }
 
 -- the lifts that a function wrote
-pub steps-run : {s t : Store} {at n at′ : ℕ} {came out : List ℕ} (ls : List Lift) → Leads s (bytesOf ls) t → length ls ≡ n
-    → (at′ ≡ at + n) × (out ≡ written came at (bytesOf ls)) → Steps s at came t at′ out
+pub steps-run : {s t : Store} {at n at′ : ℕ} {came out : List ℕ} (ls : List Lift) → Leads s (liftBytes ls) t → length ls ≡ n
+    → (at′ ≡ at + n) × (out ≡ written came at (liftBytes ls)) → Steps s at came t at′ out
 steps-run ls r h e = steps-bytes r (length-map ls byteOf ∙ h) e
 
 pub steps-then : {s t u : Store} {at at′ at″ : ℕ} {came out out′ : List ℕ} → Steps s at came t at′ out → Steps t at′ out u at″ out′

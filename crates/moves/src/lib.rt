@@ -4,7 +4,7 @@ ghost use mathlib.Core.List.{[], _∷_};
 ghost use Prim.Native.Nat.{_+_, _*_, _≤_, _<_};
 ghost use lib.ListN.{length, take, replicate};
 ghost use Rattle.stacks.specs.Moves.{exchange, flip};
-ghost use Rattle.store.specs.Lists.{liftByte, bytesOf, backward};
+ghost use Rattle.store.specs.Lists.{liftByte, liftBytes, backward};
 ghost use Rattle.moves.specs.Written.{written};
 use store::Shaft;
 use store::Store;
@@ -44,7 +44,7 @@ pub fn put_shift(out: &mut [u8], at: usize, from: u8, to: u8, k: usize) -> usize
 pub fn put_exchange(out: &mut [u8], at: usize, a: u8, b: u8, w: u8, k: usize, l: usize) -> usize
     requires { ⌜ at + (2 * (k + l) + 3) ≤ length (now out) ⌝ }
     requires { ⌜ (a < 16) × ((b < 16) × (w < 16)) ⌝ }
-    ensures { λ r. ⌜ (r ≡ at + (2 * (k + l) + 3)) × (now (out .exit) ≡ written (now (out .entry)) at (bytesOf (exchange a b w k l))) ⌝ }
+    ensures { λ r. ⌜ (r ≡ at + (2 * (k + l) + 3)) × (now (out .exit) ≡ written (now (out .entry)) at (liftBytes (exchange a b w k l))) ⌝ }
 {
     let at1 = put_shift(out, at, a, w, k);
     let at2 = put_shift(out, at1, b, w, l);
@@ -68,7 +68,7 @@ pub fn put_flip(
 ) -> usize
     requires { ⌜ at + (2 * (k + i + t) + 5) ≤ length (now out) ⌝ }
     requires { ⌜ (b < 16) × ((c < 16) × (w < 16)) ⌝ }
-    ensures { λ r. ⌜ (r ≡ at + (2 * (k + i + t) + 5)) × (now (out .exit) ≡ written (now (out .entry)) at (bytesOf (flip b c w k i t))) ⌝ }
+    ensures { λ r. ⌜ (r ≡ at + (2 * (k + i + t) + 5)) × (now (out .exit) ≡ written (now (out .entry)) at (liftBytes (flip b c w k i t))) ⌝ }
 {
     let at1 = put_shift(out, at, c, w, t);
     let at2 = put_shift(out, at1, b, w, k);

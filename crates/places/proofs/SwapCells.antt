@@ -7,6 +7,7 @@ use lib.Seq.{getD-set-same, getD-set-other}
 use Rattle.store.specs.declared.Store.{Store}
 use Rattle.store.specs.Slots.{height, slot}
 use Rattle.store.specs.Sound.{Shaped}
+use Rattle.store.proofs.Typed.{bytes-set}
 use Rattle.heights.specs.Parts.{cell}
 use Rattle.places.specs.Parts.{swappedOf}
 
@@ -59,6 +60,8 @@ module _ (s : Store) (p : Shaped s) (a i b j : ℕ) (ha : a < 16) (hb : b < 16) 
       record {
         heights-sized = p .heights-sized;
         slots-sized = simp length-set (p .slots-sized);
+        bytes = bytes-set (set (s .slots) (16 * a + i) (cell s (16 * b + j))) (16 * b + j) (cell s (16 * a + i)) (p .bytes (16 * a + i))
+            (bytes-set (s .slots) (16 * a + i) (cell s (16 * b + j)) (p .bytes (16 * b + j)) (p .bytes));
         shafts = p .shafts;
         rows = p .rows;
         heights = p .heights;

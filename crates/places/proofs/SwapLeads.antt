@@ -11,7 +11,7 @@ use Rattle.stacks.proofs.Exchange.{exchange-run, flip-run}
 use Rattle.store.specs.declared.Store.{Store}
 use Rattle.store.specs.Slots.{depth, height, slot, downward, stack}
 use Rattle.store.specs.Sound.{Shaped}
-use Rattle.store.specs.Lists.{Leads, bytesOf}
+use Rattle.store.specs.Lists.{Leads, liftBytes}
 use Rattle.store.proofs.Rows.{same-rows, stack-length}
 use Rattle.store.proofs.Played.{run-leads}
 use Rattle.places.specs.Parts.{swappedOf}
@@ -67,7 +67,7 @@ module _ (s : Store) (p : Shaped s) (b i j k l : ℕ) (hb : b < s .m) (hk : heig
 
 -- An exchange by way of w, which has room for what stands above the two and one more.
 pub exchange-leads : (s : Store) (a b w i j k l : ℕ) → Shaped s → Apart a b w → a < s .m → b < s .m → w < s .m → height s a ≡ suc (i + k)
-    → height s b ≡ suc (j + l) → height s w + (k + (l + 1)) ≤ s .h → Leads s (bytesOf (exchange a b w k l)) (swappedOf s (16 * a + i) (16 * b + j))
+    → height s b ≡ suc (j + l) → height s w + (k + (l + 1)) ≤ s .h → Leads s (liftBytes (exchange a b w k l)) (swappedOf s (16 * a + i) (16 * b + j))
 unfolding swappedOf
 exchange-leads s a b w i j k l p q ha hb hw hk hl room =
     let t : Store = swappedOf s (16 * a + i) (16 * b + j) in
@@ -76,13 +76,13 @@ exchange-leads s a b w i j k l p q ha hb hw hk hl room =
     let r : Run (s .m) (depth s) (stack s) (exchange a b w (length (above s a (suc i) k)) (length (above s b (suc j) l))) (stack t) =
     exchange-run q ha hb hw (exchanged s p a i k b j l ha hb (q .first-second) hk hl) (rw stack-length (p .heights a)) (rw stack-length (p .heights b))
     (omega (arith, stack-length s w, length-above s a (suc i) k, length-above s b (suc j) l)) in
-    subst₂ (λ (x y : ℕ). Leads s (bytesOf (exchange a b w x y)) t) (length-above s a (suc i) k) (length-above s b (suc j) l)
+    subst₂ (λ (x y : ℕ). Leads s (liftBytes (exchange a b w x y)) t) (length-above s a (suc i) k) (length-above s b (suc j) l)
     (run-leads p shaped refl refl r)
 
 -- A flip by way of w and c: the top t of c make room for one, and w has room for them and for what stands above the lower cassette.
 pub flip-leads : (s : Store) (b c w i j k l t : ℕ) → Shaped s → Apart b c w → b < s .m → c < s .m → w < s .m → height s b ≡ suc (i + k)
     → i ≡ suc (j + l) → t ≤ height s c → height s c < s .h + t → height s w + (t + (k + (l + 1))) ≤ s .h
-    → Leads s (bytesOf (flip b c w k l t)) (swappedOf s (16 * b + i) (16 * b + j))
+    → Leads s (liftBytes (flip b c w k l t)) (swappedOf s (16 * b + i) (16 * b + j))
 unfolding swappedOf
 flip-leads s b c w i j k l t p q hb hc hw hk hl ht top room =
     let s′ : Store = swappedOf s (16 * b + i) (16 * b + j) in
@@ -95,5 +95,5 @@ flip-leads s b c w i j k l t p q hb hc hw hk hl ht top room =
     flip-run q hb hc hw (flipped s p b i j k l hb hk hl) ts cs (sym (take-append-drop t (stack s c))) (rw stack-length (p .heights b))
     (rw stack-length (p .heights c)) (omega arith)
     (omega (arith, stack-length s w, length-above s b (suc i) k, length-above s b (suc j) l)) in
-    subst₃ (λ (x y z : ℕ). Leads s (bytesOf (flip b c w x y z)) s′) (length-above s b (suc i) k) (length-above s b (suc j) l) n
+    subst₃ (λ (x y z : ℕ). Leads s (liftBytes (flip b c w x y z)) s′) (length-above s b (suc i) k) (length-above s b (suc j) l) n
     (run-leads p shaped refl refl r)

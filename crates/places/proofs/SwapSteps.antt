@@ -10,7 +10,7 @@ use Rattle.stacks.proofs.Exchange.{exchange-length, flip-length}
 use Rattle.store.specs.declared.Store.{Store}
 use Rattle.store.specs.Slots.{height}
 use Rattle.store.specs.Sound.{Shaped}
-use Rattle.store.specs.Lists.{Leads, bytesOf}
+use Rattle.store.specs.Lists.{Leads, liftBytes}
 use Rattle.moves.specs.Written.{written}
 use Rattle.moves.proofs.Stepping.{steps-run}
 use Rattle.moves.specs.declared.Plan.{Plan}
@@ -47,7 +47,7 @@ pub exchange-is : {p r : Plan} {a b w i j x y : ℕ} {came out : List ℕ} → S
     → (a < p .store .m) × ((b < p .store .m) × (w < p .store .m)) → (i < height (p .store) a) × (j < height (p .store) b)
     → height (p .store) w + (height (p .store) a - i + (height (p .store) b - j)) ≤ p .store .h + 1 → x ≡ height (p .store) a
     → y ≡ height (p .store) b
-    → (r .count ≡ p .count + (2 * (x - 1 - i + (y - 1 - j)) + 3)) × (out ≡ written came (p .count) (bytesOf (exchange a b w (x - 1 - i) (y - 1 - j))))
+    → (r .count ≡ p .count + (2 * (x - 1 - i + (y - 1 - j)) + 3)) × (out ≡ written came (p .count) (liftBytes (exchange a b w (x - 1 - i) (y - 1 - j))))
     → r .store ≡ swappedOf (p .store) (16 * a + i) (16 * b + j)
     → SwapIs p (16 * a + i) (16 * b + j) (2 * (p .store .h - height (p .store) w) + 1) came r out
 exchange-is {p} {r} {a} {b} {w} {i} {j} {x} {y} shaped apart below rows room ex ey e f =
@@ -57,8 +57,8 @@ exchange-is {p} {r} {a} {b} {w} {i} {j} {x} {y} shaped apart below rows room ex 
     let hk : height s a ≡ suc (i + k) = rows-above (height s a) x i ex (rows .0) in
     let hl : height s b ≡ suc (j + l) = rows-above (height s b) y j ey (rows .1) in
     let fits = exchange-room (height s a) (height s b) (height s w) (s .h) i j k l hk hl room in
-    let leads : Leads s (bytesOf (exchange a b w k l)) (r .store) =
-    subst (Leads s (bytesOf (exchange a b w k l))) (sym f)
+    let leads : Leads s (liftBytes (exchange a b w k l)) (r .store) =
+    subst (Leads s (liftBytes (exchange a b w k l))) (sym f)
     (exchange-leads s a b w i j k l shaped apart (below .0) (below .1 .0) (below .1 .1) hk hl (fits .0)) in
     record {
       steps = steps-run (exchange a b w k l) leads (exchange-length a b w k l) e;
@@ -76,7 +76,7 @@ pub flip-is : {p r : Plan} {b c w i j x t : ℕ} {came out : List ℕ} → Shape
     → (b < p .store .m) × ((w < p .store .m) × (b ≡ w → ⊥)) → (j < i) × (i < height (p .store) b)
     → height (p .store) w + (height (p .store) b - j) ≤ p .store .h → (c < 3) × ((b ≡ c → ⊥) × (c ≡ w → ⊥)) → x ≡ height (p .store) b
     → (t ≤ 1) × ((t ≡ 0 → height (p .store) c < p .store .h) × (t ≡ 1 → p .store .h ≤ height (p .store) c))
-    → (r .count ≡ p .count + (2 * (x - 1 - i + (i - j - 1) + t) + 5)) × (out ≡ written came (p .count) (bytesOf (flip b c w (x - 1 - i) (i - j - 1) t)))
+    → (r .count ≡ p .count + (2 * (x - 1 - i + (i - j - 1) + t) + 5)) × (out ≡ written came (p .count) (liftBytes (flip b c w (x - 1 - i) (i - j - 1) t)))
     → r .store ≡ swappedOf (p .store) (16 * b + i) (16 * b + j)
     → SwapIs p (16 * b + i) (16 * b + j) (2 * (p .store .h - height (p .store) w) + 3) came r out
 flip-is {p} {r} {b} {c} {w} {i} {j} {x} {t} shaped size below rows room third ex top e f =
@@ -88,8 +88,8 @@ flip-is {p} {r} {b} {c} {w} {i} {j} {x} {t} shaped size below rows room third ex
     let fits = flip-room (height s b) (height s w) (s .h) i j k l t hk hl (top .0) room in
     let lifted = top-lifted t (height s c) (s .h) (size .1) (shaped .heights c) top in
     let apart : Apart b c w = record { first-second = third .1 .0; first-third = below .1 .1; second-third = third .1 .1 } in
-    let leads : Leads s (bytesOf (flip b c w k l t)) (r .store) =
-    subst (Leads s (bytesOf (flip b c w k l t))) (sym f)
+    let leads : Leads s (liftBytes (flip b c w k l t)) (r .store) =
+    subst (Leads s (liftBytes (flip b c w k l t))) (sym f)
     (flip-leads s b c w i j k l t shaped apart (below .0) (le-trans (third .0) (size .0)) (below .1 .0) hk hl (lifted .0) (lifted .1) (fits .0)) in
     record {
       steps = steps-run (flip b c w k l t) leads (flip-length b c w k l t) e;

@@ -9,6 +9,27 @@ use planner::number::plan_number;
 use store::Store;
 use store::byte::entered_of;
 use store::byte::left_of;
+ghost use Rattle.io.specs.Counts.{Counts};
+
+// Fills the buffer from a file and tells how many of its bytes count: up to the end of the file or of the buffer, and none where a read
+// fails, also midway.
+fn fill(file: i32, buffer: &mut [u8]) -> usize
+    ensures { λ r. ⌜ Counts r (now (buffer .exit)) ⌝ }
+{
+    let mut done: usize = 0;
+    while done < buffer.len() {
+        let got = libc::read(file, &mut buffer[done..]);
+        if got < 0 {
+            return 0;
+        }
+        let n = io::count(got, &buffer[done..]);
+        if n == 0 {
+            return done;
+        }
+        done += n;
+    }
+    done
+}
 
 // Reads a file as an image: its first 300 bytes, none where it can't be read.
 fn read_file(path: &[u8]) -> Read {
@@ -17,7 +38,7 @@ fn read_file(path: &[u8]) -> Read {
     if file < 0 {
         return read(b"");
     }
-    let n = io::read_full(file, &mut buffer);
+    let n = fill(file, &mut buffer);
     libc::close(file);
     read(&buffer[..n])
 }
@@ -49,6 +70,8 @@ fn print_list(list: &[u8], count: usize) {
     }
 }
 
+// The bytes lent are as many as any accepted store needs (`list-space-most`, crates/store/proofs/Space.antt), so 10 is never given
+// (`space-suffices`, crates/planner/proofs/PlanExact.antt).
 fn print_plan(start: Store, goal: Store) {
     let mut list = [0u8; 18360];
     let planned = make_list(start, goal, &mut list);

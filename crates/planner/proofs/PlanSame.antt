@@ -1,4 +1,4 @@
--- When two stores of one frame are the same: the heights and the slots decide, each by a test of two lists.
+-- When two stores are the same: m, h, the heights and the slots decide.
 use borrow.Author.Tests.{not-true, not-false}
 use mathlib.Core.Bool.{Bool, true, false, not}
 use mathlib.Core.List.{List}
@@ -6,8 +6,8 @@ use mathlib.Core.Path.{_≡_, refl, sym, ap, _∙_}
 use Prim.Native.Nat.{ℕ}
 use native.Mathlib.Omega.{arith}
 use Rattle.store.specs.declared.Store.{Store}
-use Rattle.rules.specs.Promises.{Decides}
-use Rattle.rules.proofs.Deciding.{fails, decides-as}
+use Rattle.reach.specs.Deciding.{Decides}
+use Rattle.reach.proofs.Deciding.{fails, decides-as}
 
 -- what a test of two lists says
 abbrev pub Tests : Bool → List ℕ → List ℕ → Type 0
@@ -21,6 +21,12 @@ tests-decide v w t =
     }
 
 module _ (s t : Store) where
+  pub shafts-differ : (s .m ≡ t .m → ⊥) → Decides false (s ≡ t)
+  shafts-differ n = fails (λ e. n (ap (λ (u : Store). u .m) e))
+
+  pub depths-differ : (s .h ≡ t .h → ⊥) → Decides false (s ≡ t)
+  depths-differ n = fails (λ e. n (ap (λ (u : Store). u .h) e))
+
   pub heights-differ : {r : Bool} → Tests r (s .heights) (t .heights) → not r ≡ true → Decides false (s ≡ t)
   heights-differ {r} h n = fails (λ e. tests-decide _ _ h .not-so (not-true r n) (ap (λ (u : Store). u .heights) e))
 

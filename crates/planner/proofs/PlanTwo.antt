@@ -45,7 +45,7 @@ module _ (s t : Store) (p : Comparable s t) (few : s .m ≤ 2) where
 
   -- a shift of two shafts that runs from start to goal, and shifts none where they are the same, leads from start to goal
   shift-leads : (k a b : ℕ) → (s ≡ t → k ≡ 0)
-      → (s .m ≡ 2 → Reading.reading (stack s) ≡ Reading.reading (stack t) → Run 2 (depth s) (stack s) (shift k a b) (stack t))
+      → (s .m ≡ 2 → Reading.twoStackReading (stack s) ≡ Reading.twoStackReading (stack t) → Run 2 (depth s) (stack s) (shift k a b) (stack t))
       → Rule s t → Leads s (replicate k (liftByte a b)) t
   shift-leads k a b none run = go (s .m) refl
     where

@@ -5,6 +5,7 @@ pub mod same;
 
 use make::make;
 use rules::pairs::Pair;
+use rules::pairs::PairFault;
 use rules::pairs::compare;
 use rules::rule::rule_holds;
 use same::same_store;
@@ -14,10 +15,10 @@ ghost use mathlib.Core.Path.{_≡_};
 ghost use Prim.Native.Nat.{_+_, _*_, _≤_};
 ghost use Rattle.planner.specs.Promises.{PlanIs};
 
-// How the list maker answers: a list, or refused with the number of the pair, 10 or 15.
+// How the list maker answers: a list, or refused with the fault of the pair, 10 or 15.
 pub enum PlanAnswer {
     Listed,
-    Refused(Pair),
+    Refused(PairFault),
     LittleSpace,
     Unreachable,
 }
@@ -36,6 +37,21 @@ fn list_space(h: usize, n: usize) -> usize
     4 * h * n + 8 * n
 }
 
+fn refused(answer: PlanAnswer) -> Planned
+    ensures { λ r. ⌜ r ≡ record { answer = answer; count = 0 } ⌝ }
+{
+    Planned { answer, count: 0 }
+}
+
+fn listed(count: usize) -> Planned
+    ensures { λ r. ⌜ r ≡ record { answer = PlanAnswer.Listed; count = count } ⌝ }
+{
+    Planned {
+        answer: PlanAnswer::Listed,
+        count,
+    }
+}
+
 // Writes a list of lifts that leads from start to goal into the lent bytes, or refuses and writes nothing.
 pub fn make_list(start: Store, goal: Store, out: &mut [u8]) -> Planned
     ensures { λ r. ⌜ PlanIs start goal (now (out .entry)) (now (out .exit)) r ⌝ }
@@ -43,33 +59,17 @@ pub fn make_list(start: Store, goal: Store, out: &mut [u8]) -> Planned
     let compared = compare(start, goal);
     let pair = compared.pair;
     let n = compared.n;
-    if let Pair::Comparable = pair {
-        if out.len() < list_space(wide(start.h), n) {
-            return Planned {
-                answer: PlanAnswer::LittleSpace,
-                count: 0,
-            };
-        }
-        if !rule_holds(start, goal, n) {
-            return Planned {
-                answer: PlanAnswer::Unreachable,
-                count: 0,
-            };
-        }
-        if same_store(start, goal) {
-            return Planned {
-                answer: PlanAnswer::Listed,
-                count: 0,
-            };
-        }
-        let count = make(start, goal, n, out);
-        return Planned {
-            answer: PlanAnswer::Listed,
-            count,
-        };
+    if let Pair::Refused(f) = pair {
+        return refused(PlanAnswer::Refused(f));
     }
-    Planned {
-        answer: PlanAnswer::Refused(pair),
-        count: 0,
+    if out.len() < list_space(wide(start.h), n) {
+        return refused(PlanAnswer::LittleSpace);
     }
+    if !rule_holds(start, goal, n) {
+        return refused(PlanAnswer::Unreachable);
+    }
+    if same_store(start, goal) {
+        return listed(0);
+    }
+    listed(make(start, goal, n, out))
 }

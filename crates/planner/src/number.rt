@@ -1,6 +1,6 @@
 // The number of document 01 for each answer of the list maker, 0 where a list was made.
 use crate::PlanAnswer;
-use rules::number::pair_number;
+use rules::number::pair_fault_number;
 ghost use mathlib.Core.Path.{_≡_};
 ghost use Rattle.planner.specs.Numbers.{planNumber};
 
@@ -9,7 +9,7 @@ pub fn plan_number(a: PlanAnswer) -> u8
 {
     match a {
         PlanAnswer::Listed => 0,
-        PlanAnswer::Refused(p) => pair_number(p),
+        PlanAnswer::Refused(f) => pair_fault_number(f),
         PlanAnswer::LittleSpace => 10,
         PlanAnswer::Unreachable => 15,
     }

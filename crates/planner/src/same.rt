@@ -1,13 +1,18 @@
-// Whether two stores of one frame are the same.
+// Whether two stores are the same.
 use check::same;
 use store::Store;
 ghost use mathlib.Core.Path.{_≡_};
-ghost use Rattle.rules.specs.Promises.{Decides};
+ghost use Rattle.reach.specs.Deciding.{Decides};
 
 pub fn same_store(s: Store, t: Store) -> bool
-    requires { ⌜ (s .m ≡ t .m) × (s .h ≡ t .h) ⌝ }
     ensures { λ r. ⌜ Decides r (s ≡ t) ⌝ }
 {
+    if s.m != t.m {
+        return false;
+    }
+    if s.h != t.h {
+        return false;
+    }
     let a = s.heights;
     let b = t.heights;
     if !same(&a, &b) {

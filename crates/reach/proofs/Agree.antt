@@ -14,7 +14,7 @@ use Rattle.store.specs.declared.Store.{Store}
 use Rattle.store.specs.Slots.{depth, height, slot, upward, downward, stack, cassettesBelow, cassettes, cassetteCount, emptyCount}
 use Rattle.store.specs.Sound.{Shaped}
 use Rattle.store.proofs.Rows.{stack-length}
-use Rattle.reach.specs.Rules.{reading, floor}
+use Rattle.reach.specs.Rules.{twoShaftReading, floor}
 
 -- the sum of equal numbers
 sum-constant : (n k : ℕ) → sum n (λ i. k) ≡ n * k
@@ -37,8 +37,8 @@ module _ (s : Store) where
   upward-reversed x k = sym (append-nil (upward s x k)) ∙ upward-then x k []
 
   -- the reading of document 01 is the reading of the stacks
-  pub reading-agrees : reading s ≡ Reading.reading (stack s)
-  unfolding reading Reading.reading stack
+  pub reading-agrees : twoShaftReading s ≡ Reading.twoStackReading (stack s)
+  unfolding twoShaftReading Reading.twoStackReading stack
   reading-agrees = upward-then 0 (height s 0) (downward s 1 (height s 1))
 
   -- each number stands as often among the cassettes as in the stacks

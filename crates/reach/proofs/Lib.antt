@@ -1,3 +1,5 @@
 pub mod Agree
+pub mod Deciding
 pub mod Reachability
+pub mod RuleTests
 pub mod Sets

@@ -17,13 +17,13 @@ use Rattle.stacks.proofs.ThreeShafts.{three-reached}
 use Rattle.store.specs.declared.Store.{Store}
 use Rattle.store.specs.Slots.{depth, height, stack, listSpace}
 use Rattle.store.specs.Sound.{Shaped, Sound}
-use Rattle.store.specs.Lists.{liftOf, bytesOf, turnedByte, backward, Leads, ended, Reachable}
+use Rattle.store.specs.Lists.{liftOf, liftBytes, turnedByte, backward, Leads, ended, Reachable}
 use Rattle.store.proofs.Acceptance.{accepted-sound}
 use Rattle.store.proofs.Played.{leads-run, leads-shaped, leads-frame, run-leads}
 use Rattle.store.proofs.Rows.{stack-length}
 use Rattle.store.proofs.Views.{same-stacks}
 use Rattle.reach.specs.Pairs.{Comparable}
-use Rattle.reach.specs.Rules.{reading, floor, SameFloors, RuleFor, Rule}
+use Rattle.reach.specs.Rules.{twoShaftReading, floor, SameFloors, RuleFor, Rule}
 use Rattle.reach.proofs.Agree.{shaped-within, reading-agrees, occurrences-agree, total-agrees, floor-agrees, none-beyond, rows-agree}
 
 -- the lowest cassettes of each shaft, as many as the empty slots leave of its depth, are the same
@@ -44,7 +44,7 @@ module _ {s t : Store} {bs : List ℕ} (p : Shaped s) (l : Leads s bs t) where
   leads-floors = floors-kept (shaped-within s p) (leads-run p l)
 
 -- the bytes of a list of lifts turned about are its bytes turned about
-bytes-back : (bs : List ℕ) (r : List Lift) → bytesOf (reverseAux (map turned (map liftOf bs)) r) ≡ reverseAux (map turnedByte bs) (bytesOf r)
+bytes-back : (bs : List ℕ) (r : List Lift) → liftBytes (reverseAux (map turned (map liftOf bs)) r) ≡ reverseAux (map turnedByte bs) (liftBytes r)
 bytes-back [] r = refl
 bytes-back (b ∷ bs) r = bytes-back bs (turned (liftOf b) ∷ r)
 
@@ -104,13 +104,13 @@ module _ (s t : Store) (p : Comparable s t) where
   -- a run of the stacks within the bound is a list within the list space
   short-list : Reached (s .m) (depth s) (stack s) (stack t) (listSpace s) → ShortList s t
   short-list r = record {
-    lifts = bytesOf (r .lifts);
+    lifts = liftBytes (r .lifts);
     leads = run-leads (start .shaped) (goal .shaped) (p .shafts) (p .depth) (r .runs);
     short = rw length-map (r .short);
   }
 
   -- the rules for two shafts and for more give such a run
-  two-shafts : s .m ≡ 2 → reading s ≡ reading t → Reached (s .m) (depth s) (stack s) (stack t) (listSpace s)
+  two-shafts : s .m ≡ 2 → twoShaftReading s ≡ twoShaftReading t → Reached (s .m) (depth s) (stack s) (stack t) (listSpace s)
   unfolding listSpace total
   two-shafts e r =
       subst (λ m. Reached m (depth s) (stack s) (stack t) (listSpace s)) (sym e)

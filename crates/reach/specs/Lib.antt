@@ -1,2 +1,4 @@
+pub mod Deciding
 pub mod Pairs
 pub mod Rules
+pub mod Tests

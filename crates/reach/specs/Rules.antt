@@ -6,8 +6,8 @@ use Rattle.store.specs.declared.Store.{Store}
 use Rattle.store.specs.Slots.{depth, height, upward, downward, emptyCount}
 
 -- "m = 2: read shaft 0 upward, then shaft 1 downward."
-unfoldable pub reading : Store → List ℕ
-reading s = upward s 0 (height s 0) ++ downward s 1 (height s 1)
+unfoldable pub twoShaftReading : Store → List ℕ
+twoShaftReading s = upward s 0 (height s 0) ++ downward s 1 (height s 1)
 
 -- "rows 1 to h − e never change (there are none if e ≥ h)": how many rows of shaft x those are
 unfoldable pub floor : Store → ℕ → ℕ
@@ -21,7 +21,7 @@ SameFloors s t = (x : ℕ) → x < s .m → upward s x (floor s x) ≡ upward t 
 abbrev pub RuleFor : ℕ → Store → Store → Type 0
 RuleFor zero s t = s ≡ t
 RuleFor (suc zero) s t = s ≡ t
-RuleFor (suc (suc zero)) s t = reading s ≡ reading t
+RuleFor (suc (suc zero)) s t = twoShaftReading s ≡ twoShaftReading t
 RuleFor (suc (suc (suc k))) s t = SameFloors s t
 
 abbrev pub Rule : Store → Store → Type 0

@@ -1,5 +1,5 @@
 pub mod Answers
-pub mod Deciding
+pub mod Exact
 pub mod Faults
 pub mod MarkSets
 pub mod Places

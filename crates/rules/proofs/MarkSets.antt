@@ -15,7 +15,7 @@ use Rattle.stacks.specs.Count.{count, one}
 use Rattle.store.specs.Marking.{noMarks, marked, withMarks}
 use Rattle.store.proofs.Checks.{mark-found, mark-missing}
 use Rattle.store.proofs.MarkLaws.{with-length, marked-of, Bytes}
-use Rattle.rules.specs.Promises.{Decides}
+use Rattle.reach.specs.Deciding.{Decides}
 
 -- numbers of n bits with the same bits are equal
 half-bits : (a k : ℕ) → a / 2 / 2 ^ k ≡ a / 2 ^ suc k

@@ -10,7 +10,7 @@ use Rattle.stacks.specs.Reading
 use Rattle.store.specs.declared.Store.{Store}
 use Rattle.store.specs.Slots.{height, slot, upward, downward, stack}
 use Rattle.store.proofs.Rows.{stack-length, same-rows, rows-same}
-use Rattle.reach.specs.Rules.{reading}
+use Rattle.reach.specs.Rules.{twoShaftReading}
 use Rattle.reach.proofs.Agree.{upward-reversed, reading-agrees}
 
 module _ (s : Store) where
@@ -44,30 +44,30 @@ module _ (s : Store) where
   downward-at x (suc k) (suc i) h = downward-at x k i (omega arith) ∙ ap (λ n. getD (s .slots) (16 * x + n) 0) (omega arith)
 
   -- a place of the reading in shaft 0, and one in shaft 1
-  pub read-low : (p : ℕ) → p < height s 0 → getD (s .slots) p 0 ≡ getD (reading s) p 0
-  unfolding reading
+  pub read-low : (p : ℕ) → p < height s 0 → getD (s .slots) p 0 ≡ getD (twoShaftReading s) p 0
+  unfolding twoShaftReading
   read-low p h = sym (among-rows 0 (height s 0) p _ h ∙ ap (λ n. getD (s .slots) n 0) (omega arith))
 
-  pub read-high : (n p : ℕ) → n ≡ height s 0 + height s 1 → p < n → height s 0 ≤ p → getD (s .slots) (16 + (n - 1 - p)) 0 ≡ getD (reading s) p 0
-  unfolding reading
+  pub read-high : (n p : ℕ) → n ≡ height s 0 + height s 1 → p < n → height s 0 ≤ p → getD (s .slots) (16 + (n - 1 - p)) 0 ≡ getD (twoShaftReading s) p 0
+  unfolding twoShaftReading
   read-high n p e h i =
       let j : ℕ = p - height s 0 in
-      sym (ap (λ k. getD (reading s) k 0) (omega arith)
+      sym (ap (λ k. getD (twoShaftReading s) k 0) (omega arith)
       ∙ after-rows 0 (height s 0) j (downward s 1 (height s 1))
       ∙ downward-at 1 (height s 1) j (omega arith)
       ∙ ap (λ k. getD (s .slots) k 0) (omega arith))
 
-  reading-length : length (reading s) ≡ height s 0 + height s 1
-  unfolding Reading.reading
+  reading-length : length (twoShaftReading s) ≡ height s 0 + height s 1
+  unfolding Reading.twoStackReading
   reading-length =
       ap length (reading-agrees s) ∙ length-reverseAux (stack s 0) (stack s 1) ∙ omega (arith, stack-length s 0, stack-length s 1)
 
 module _ (s t : Store) where
   -- readings of n cassettes that agree at each place are the same
   pub same-readings : (n : ℕ) → n ≡ height s 0 + height s 1 → n ≡ height t 0 + height t 1
-      → ((p : ℕ) → p < n → getD (reading s) p 0 ≡ getD (reading t) p 0) → reading s ≡ reading t
+      → ((p : ℕ) → p < n → getD (twoShaftReading s) p 0 ≡ getD (twoShaftReading t) p 0) → twoShaftReading s ≡ twoShaftReading t
   same-readings n e f g =
-      ext-getD 0 (reading s) (reading t) (reading-length s ∙ sym e ∙ f ∙ sym (reading-length t)) λ p h. g p (omega (arith, reading-length s))
+      ext-getD 0 (twoShaftReading s) (twoShaftReading t) (reading-length s ∙ sym e ∙ f ∙ sym (reading-length t)) λ p h. g p (omega (arith, reading-length s))
 
   -- rows 1 to k of shaft x agree exactly if they agree slot by slot
   pub rows-so : (x k : ℕ) → ((i : ℕ) → i < k → getD (s .slots) (16 * x + i) 0 ≡ getD (t .slots) (16 * x + i) 0) → upward s x k ≡ upward t x k

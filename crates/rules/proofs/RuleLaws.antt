@@ -16,7 +16,7 @@ use Rattle.store.proofs.Acceptance.{accepted-sound}
 use Rattle.store.proofs.Rows.{stack-length}
 use Rattle.store.proofs.Views.{same-stacks}
 use Rattle.reach.specs.Pairs.{Comparable}
-use Rattle.reach.specs.Rules.{reading, floor, RuleFor, Rule}
+use Rattle.reach.specs.Rules.{twoShaftReading, floor, RuleFor, Rule}
 use Rattle.reach.proofs.Agree.{upward-reversed, reading-agrees, total-agrees, none-beyond}
 
 module _ (s : Store) (p : Shaped s) where
@@ -48,8 +48,8 @@ module _ (s : Store) (p : Shaped s) where
   count-most = below-most (s .m)
 
   -- with one shaft, the reading is that shaft's
-  one-read : s .m ≡ 1 → reading s ≡ reverse (stack s 0)
-  unfolding Reading.reading
+  one-read : s .m ≡ 1 → twoShaftReading s ≡ reverse (stack s 0)
+  unfolding Reading.twoStackReading
   one-read e = reading-agrees s ∙ ap (reverseAux (stack s 0)) (none-beyond s p 1 (omega arith))
 
 module _ (s t : Store) (p : Comparable s t) where
@@ -71,7 +71,7 @@ module _ (s t : Store) (p : Comparable s t) where
   )
 
   -- stores of one shaft that read the same are the same
-  one-same : s .m ≡ 1 → reading s ≡ reading t → s ≡ t
+  one-same : s .m ≡ 1 → twoShaftReading s ≡ twoShaftReading t → s ≡ t
   one-same e r = same-stacks s t (start .shaped) (goal .shaped) (p .shafts) (p .depth) go
     where
       f : t .m ≡ 1
@@ -85,12 +85,12 @@ module _ (s t : Store) (p : Comparable s t) where
       go (suc x) = none-beyond s (start .shaped) (suc x) (omega arith) ∙ sym (none-beyond t (goal .shaped) (suc x) (omega arith))
 
   -- "m = 1: only the start itself. m = 2: .. both stores read the same."
-  pub few-rule : s .m ≤ 2 → (reading s ≡ reading t) ↔ Rule s t
+  pub few-rule : s .m ≤ 2 → (twoShaftReading s ≡ twoShaftReading t) ↔ Rule s t
   few-rule = go (s .m) refl
     where
-      go : (m : ℕ) → s .m ≡ m → m ≤ 2 → (reading s ≡ reading t) ↔ RuleFor m s t
+      go : (m : ℕ) → s .m ≡ m → m ≤ 2 → (twoShaftReading s ≡ twoShaftReading t) ↔ RuleFor m s t
       go zero e h = absurd (omega (arith, start .some-shaft))
-      go (suc zero) e h = (one-same e, λ r. ap reading r)
+      go (suc zero) e h = (one-same e, λ r. ap twoShaftReading r)
       go (suc (suc zero)) e h = (λ r. r, λ r. r)
       go (suc (suc (suc m))) e h = absurd (omega arith)
 

@@ -4,29 +4,39 @@ pub mod pairs;
 pub mod rule;
 
 use pairs::Pair;
+use pairs::PairFault;
 use pairs::compare;
 use rule::rule_holds;
 use store::Store;
-ghost use Rattle.rules.specs.Promises.{ReachIs};
+ghost use mathlib.Core.Path.{_≡_};
+ghost use Rattle.rules.specs.Promises.{yesOrNo, ReachSays};
 
 // The yes or no.
 pub enum Reach {
     Yes,
-    Refused(Pair),
+    Refused(PairFault),
     Unreachable,
+}
+
+// The answer on stores that can be compared, by whether the rule holds.
+fn yes_or_no(holds: bool) -> Reach
+    ensures { λ r. ⌜ r ≡ yesOrNo holds ⌝ }
+{
+    if holds {
+        Reach::Yes
+    } else {
+        Reach::Unreachable
+    }
 }
 
 // Whether some list of legal lifts leads from start to goal.
 pub fn reachable(start: Store, goal: Store) -> Reach
-    ensures { λ r. ⌜ ReachIs start goal r ⌝ }
+    ensures { λ r. ⌜ ReachSays start goal r ⌝ }
 {
     let compared = compare(start, goal);
     let pair = compared.pair;
-    if let Pair::Comparable = pair {
-        if rule_holds(start, goal, compared.n) {
-            return Reach::Yes;
-        }
-        return Reach::Unreachable;
+    if let Pair::Refused(f) = pair {
+        return Reach::Refused(f);
     }
-    Reach::Refused(pair)
+    yes_or_no(rule_holds(start, goal, compared.n))
 }

@@ -4,15 +4,21 @@ use store::Marks;
 use store::Store;
 use store::Verdict;
 ghost use mathlib.Core.Path.{_≡_};
-ghost use Rattle.rules.specs.Promises.{Decides, CompareIs};
+ghost use Rattle.reach.specs.Deciding.{Decides};
+ghost use Rattle.rules.specs.Promises.{CompareIs};
 
-// Whether two stores can be compared, or why not.
-pub enum Pair {
-    Comparable,
+// Why two stores can't be compared: the start's own fault, the goal's, 8, 9.
+pub enum PairFault {
     StartRefused(Fault),
     GoalRefused(Fault),
     Frames,
     Cassettes,
+}
+
+// Whether two stores can be compared.
+pub enum Pair {
+    Comparable,
+    Refused(PairFault),
 }
 
 // The answer, and the count of cassettes where the stores can be compared, else 0.
@@ -39,10 +45,13 @@ fn same_marks(a: Marks, b: Marks) -> bool
     v[3] == w[3]
 }
 
-fn refused(pair: Pair) -> Compared
-    ensures { λ r. ⌜ (r .pair ≡ pair) × (r .n ≡ 0) ⌝ }
+fn refused(f: PairFault) -> Compared
+    ensures { λ r. ⌜ r ≡ record { pair = Pair.Refused f; n = 0 } ⌝ }
 {
-    Compared { pair, n: 0 }
+    Compared {
+        pair: Pair::Refused(f),
+        n: 0,
+    }
 }
 
 pub fn compare(start: Store, goal: Store) -> Compared
@@ -51,23 +60,23 @@ pub fn compare(start: Store, goal: Store) -> Compared
     let first = start.check();
     let start_verdict = first.verdict;
     if let Verdict::Refused(f) = start_verdict {
-        return refused(Pair::StartRefused(f));
+        return refused(PairFault::StartRefused(f));
     }
     let second = goal.check();
     let goal_verdict = second.verdict;
     if let Verdict::Refused(f) = goal_verdict {
-        return refused(Pair::GoalRefused(f));
+        return refused(PairFault::GoalRefused(f));
     }
     if start.m != goal.m {
-        return refused(Pair::Frames);
+        return refused(PairFault::Frames);
     }
     if start.h != goal.h {
-        return refused(Pair::Frames);
+        return refused(PairFault::Frames);
     }
     let marks = first.marks;
     let others = second.marks;
     if !same_marks(marks, others) {
-        return refused(Pair::Cassettes);
+        return refused(PairFault::Cassettes);
     }
     Compared {
         pair: Pair::Comparable,

@@ -6,15 +6,15 @@ ghost use Prim.Native.Nat.{ℕ, suc, _+_, _-_, _*_, _≤_, _<_};
 ghost use lib.ListN.{getD};
 ghost use Rattle.store.specs.Slots.{height, slot, upward, cassetteCount};
 ghost use Rattle.store.specs.Sound.{Shaped};
+ghost use Rattle.reach.specs.Deciding.{Decides};
 ghost use Rattle.reach.specs.Pairs.{Comparable};
-ghost use Rattle.reach.specs.Rules.{reading, SameFloors, Rule};
-ghost use Rattle.rules.specs.Promises.{Decides};
+ghost use Rattle.reach.specs.Rules.{twoShaftReading, SameFloors, Rule};
 
 // The cassette at a place of the two-shaft reading of n cassettes: shaft 0 upward, then shaft 1 downward.
 fn read_at(s: Store, n: usize, p: usize) -> u8
     requires { ⌜ Shaped s ⌝ }
     requires { ⌜ (n ≡ height s 0 + height s 1) × (p < n) ⌝ }
-    ensures { λ r. ⌜ r ≡ getD (reading s) p 0 ⌝ }
+    ensures { λ r. ⌜ r ≡ getD (twoShaftReading s) p 0 ⌝ }
 {
     let low = wide(s.heights[0]);
     if p < low {
@@ -28,7 +28,7 @@ fn same_reading(s: Store, t: Store, n: usize) -> bool
     requires { ⌜ Shaped s ⌝ }
     requires { ⌜ Shaped t ⌝ }
     requires { ⌜ (n ≡ height s 0 + height s 1) × (n ≡ height t 0 + height t 1) ⌝ }
-    ensures { λ r. ⌜ Decides r (reading s ≡ reading t) ⌝ }
+    ensures { λ r. ⌜ Decides r (twoShaftReading s ≡ twoShaftReading t) ⌝ }
 {
     let mut p: usize = 0;
     while p < n {

@@ -9,7 +9,7 @@ use lib.ListN.{length, take, drop, take-append-drop, length-drop, length-replica
 use lib.Seq.{length-take-le}
 use Rattle.stacks.specs.Run.{Stacks, Lift, Step, Run, done, step, Within, Reached}
 use Rattle.stacks.specs.Moves.{lift, shift}
-use Rattle.stacks.specs.Reading.{reading}
+use Rattle.stacks.specs.Reading.{twoStackReading}
 use Rattle.stacks.proofs.Shift.{shift-leads}
 
 -- With one shaft only the empty list is legal.
@@ -23,8 +23,8 @@ one-shaft done = refl
 one-shaft (step s r) = absurd (omega arith)
 
 -- A legal lift of two shafts moves one cassette over the seam of the reading.
-step-reading : {d : ℕ → ℕ} {S T : Stacks} (a b : ℕ) → Step 2 d (lift a b) S T → reading S ≡ reading T
-unfolding reading
+step-reading : {d : ℕ → ℕ} {S T : Stacks} (a b : ℕ) → Step 2 d (lift a b) S T → twoStackReading S ≡ twoStackReading T
+unfolding twoStackReading
 step-reading zero zero s = absurd (omega arith)
 step-reading zero (suc zero) s = rw (s .taken, s .placed)
 step-reading zero (suc (suc b)) s = absurd (omega arith)
@@ -33,7 +33,7 @@ step-reading (suc zero) (suc b) s = absurd (omega arith)
 step-reading (suc (suc a)) b s = absurd (omega arith)
 
 -- Every legal list of two shafts keeps the reading.
-pub reading-kept : {d : ℕ → ℕ} {S T : Stacks} {ls : List Lift} → Run 2 d S ls T → reading S ≡ reading T
+pub reading-kept : {d : ℕ → ℕ} {S T : Stacks} {ls : List Lift} → Run 2 d S ls T → twoStackReading S ≡ twoStackReading T
 reading-kept done = refl
 reading-kept (step {l = l} s r) = step-reading (l .left) (l .entered) s ∙ reading-kept r
 
@@ -58,25 +58,25 @@ shift-along {a = a} {b} {d} {S} {T} k n ha hb more same fits kept =
     let long : k ≤ length (S a) = omega arith in
     rw length-take-le at (shift-leads {d = d} n ha hb (take k (S a)) (cc) (cc) fits kept)
 
-module _ {d : ℕ → ℕ} {S T : Stacks} (k : ℕ) (within : Within 2 d T) (outside : (i : ℕ) → 2 ≤ i → S i ≡ T i) (same : reading S ≡ reading T) where
+module _ {d : ℕ → ℕ} {S T : Stacks} (k : ℕ) (within : Within 2 d T) (outside : (i : ℕ) → 2 ≤ i → S i ≡ T i) (same : twoStackReading S ≡ twoStackReading T) where
   -- Two shafts that read the same, with k more in shaft 0 at the start: k lifts from 0 to 1.
   pub two-shift : length (S 0) ≡ k + length (T 0) → Run 2 d S (shift k 0 1) T
-  unfolding reading
+  unfolding twoStackReading
   two-shift more =
       shift-along k (omega arith) (omega arith) (omega arith) more same (within 1 (omega arith)) (λ i n₀ n₁. sym (outside i (omega arith)))
 
   -- The same with k more in shaft 0 at the end: k lifts from 1 to 0.
   pub two-unshift : length (T 0) ≡ k + length (S 0) → Run 2 d S (shift k 1 0) T
-  unfolding reading
+  unfolding twoStackReading
   two-unshift more =
       shift-along k (omega arith) (omega arith) (omega arith) (omega (arith, simp length-reverseAux at (ap length same)))
       (sym (reverseAux-reverseAux-nil (S 0) (S 1)) ∙ rw same (reverseAux-reverseAux-nil (T 0) (T 1))) (within 0 (omega arith))
       (λ i n₁ n₀. sym (outside i (omega arith)))
 
 -- Two stores of two shafts that read the same are at most as many lifts apart as there are cassettes.
-pub two-reached : {d : ℕ → ℕ} {S T : Stacks} → Within 2 d T → ((i : ℕ) → 2 ≤ i → S i ≡ T i) → reading S ≡ reading T
+pub two-reached : {d : ℕ → ℕ} {S T : Stacks} → Within 2 d T → ((i : ℕ) → 2 ≤ i → S i ≡ T i) → twoStackReading S ≡ twoStackReading T
     → Reached 2 d S T (length (S 0) + length (S 1))
-unfolding reading
+unfolding twoStackReading
 two-reached {d} {S} {T} within outside same = go (decLe (length (T 0)) (length (S 0)))
   where
     go : Dec (length (T 0) ≤ length (S 0)) → Reached 2 d S T (length (S 0) + length (S 1))

@@ -4,5 +4,5 @@ use Prim.Native.Nat.{ℕ}
 use Rattle.stacks.specs.Run.{Stacks}
 
 -- shaft 0 from the bottom up, then shaft 1 from the top down
-unfoldable pub reading : Stacks → List ℕ
-reading S = reverseAux (S 0) (S 1)
+unfoldable pub twoStackReading : Stacks → List ℕ
+twoStackReading S = reverseAux (S 0) (S 1)

@@ -16,6 +16,7 @@ use Rattle.store.specs.Marking.{noMarks, marked, withMarks}
 use Rattle.store.specs.Numbers.{faultNumber, verdictNumber}
 use Rattle.store.specs.Promises.{marksUnless, CheckIs}
 use Rattle.store.proofs.MarkLaws.{marked-of}
+use Rattle.store.proofs.Numbered.{only-verdict}
 
 no-marks : (f : Fault) (l : List ℕ) → marksUnless (faultNumber f) l ≡ noMarks
 no-marks OutOfPlace l = refl
@@ -31,23 +32,30 @@ fault-one NumberZero e = omega arith
 fault-one Twice e = omega arith
 fault-one TooMany e = omega arith
 
+pub fault-most : (f : Fault) → faultNumber f ≤ 12
+fault-most OutOfPlace = omega arith
+fault-most TooHigh = omega arith
+fault-most NumberZero = omega arith
+fault-most Twice = omega arith
+fault-most TooMany = omega arith
+
 pub refused-is : (f : Fault) (k : ℕ) (l : List ℕ) (r : Checked) → (r .verdict ≡ Refused f) × (r .marks .words ≡ noMarks) → k ≡ faultNumber f → CheckIs k l r
 refused-is f k l r p e = record {
-  verdict = ap verdictNumber (p .0) ∙ sym e;
+  verdict = only-verdict (ap verdictNumber (p .0) ∙ sym e);
   marks = p .1 ∙ sym (no-marks f l) ∙ ap (λ (n : ℕ). marksUnless n l) (sym e);
 }
 
 pub accepted-is : (k : ℕ) (l : List ℕ) (m : Marks) → k ≡ 0 → m .words ≡ withMarks noMarks l → CheckIs k l (record { verdict = Accepted; marks = m })
-accepted-is k l m e w = record { verdict = sym e; marks = w ∙ ap (λ (n : ℕ). marksUnless n l) (sym e) }
+accepted-is k l m e w = record { verdict = only-verdict (sym e); marks = w ∙ ap (λ (n : ℕ). marksUnless n l) (sym e) }
 
 -- a verdict that accepts has no fault, and its marks are those of the list
 pub accepted-none : (k : ℕ) (l : List ℕ) (r : Checked) → CheckIs k l r → r .verdict ≡ Accepted → (k ≡ 0) × (r .marks .words ≡ withMarks noMarks l)
 accepted-none k l r p e =
-    let z : k ≡ 0 = sym (p .verdict) ∙ ap verdictNumber e in
+    let z : k ≡ 0 = sym (p .verdict .has) ∙ ap verdictNumber e in
     (z, p .marks ∙ ap (λ (n : ℕ). marksUnless n l) z)
 
 pub refused-one : (f : Fault) (k : ℕ) (l : List ℕ) (r : Checked) → CheckIs k l r → r .verdict ≡ Refused f → k ≡ faultNumber f
-refused-one f k l r p e = sym (p .verdict) ∙ ap verdictNumber e
+refused-one f k l r p e = sym (p .verdict .has) ∙ ap verdictNumber e
 
 one-true : (t : Bool) → one t ≡ 1 → t ≡ true
 one-true true e = refl

@@ -9,9 +9,10 @@ use lib.Dec.{leb, ltb, eqb}
 use lib.ListN.{length, getD, List·getD-eq-default}
 use Rattle.store.specs.declared.Store.{Store}
 use Rattle.store.specs.Slots.{depth, height, slot}
-use Rattle.store.specs.Accept.{inRange, sized, allBelow, usable, slotInPlace, shaftInPlace, inPlace}
+use Rattle.store.specs.Accept.{inRange, allBytes, typed, allBelow, usable, slotInPlace, shaftInPlace, inPlace}
 use Rattle.store.specs.Sound.{Shaped}
 use Rattle.store.proofs.Faulted.{both-true, all-true, all-of}
+use Rattle.store.proofs.Typed.{bytes-at, all-bytes}
 
 none-zero : (k : ℕ) → k ≡ 0 → inRange k ≡ false
 none-zero k e = simp (le-ltb 0 k (omega arith))
@@ -58,12 +59,18 @@ module _ (s : Store) where
   unfolding inPlace
   rows-above h = simp (none-above (s .h) h, and-false)
 
-  -- where both are in range, and the arrays have their lengths, the shafts decide
-  pub by-shafts : 0 < s .m → s .m ≤ 16 → 0 < s .h → s .h ≤ 16 → length (s .heights) ≡ 16 → length (s .slots) ≡ 256
+  -- where both are in range, and the arrays have their lengths and hold bytes, the shafts decide
+  pub by-shafts : 0 < s .m → s .m ≤ 16 → 0 < s .h → s .h ≤ 16 → length (s .heights) ≡ 16 → length (s .slots) ≡ 256 → ((i : ℕ) → getD (s .slots) i 0 < 256)
       → inPlace s ≡ allBelow 16 (shaftInPlace s)
   unfolding inPlace
-  by-shafts m₁ m₂ h₁ h₂ a b =
-      simp (range-true (s .m) m₁ m₂, range-true (s .h) h₁ h₂, eq-eqb (length (s .heights)) 16 a, eq-eqb (length (s .slots)) 256 b)
+  by-shafts m₁ m₂ h₁ h₂ a b c =
+      simp (
+        range-true (s .m) m₁ m₂,
+        range-true (s .h) h₁ h₂,
+        eq-eqb (length (s .heights)) 16 a,
+        eq-eqb (length (s .slots)) 256 b,
+        all-bytes (s .slots) c,
+      )
 
 -- one shaft in place: its height is none where it is not below m, and every slot from its height up is empty
 module _ (s : Store) (x : ℕ) where
@@ -121,9 +128,9 @@ module _ (s : Store) (x : ℕ) where
 module _ (s : Store) where
   -- what `inPlace` says of a store
   module _ (e : inPlace s ≡ true) where
-    parts : (inRange (s .m) ≡ true) × (inRange (s .h) ≡ true) × (sized s ≡ true) × (allBelow 16 (shaftInPlace s) ≡ true)
+    parts : (inRange (s .m) ≡ true) × (inRange (s .h) ≡ true) × (typed s ≡ true) × (allBelow 16 (shaftInPlace s) ≡ true)
     unfolding inPlace
-    parts = four-true (inRange (s .m)) (inRange (s .h)) (sized s) (allBelow 16 (shaftInPlace s)) e
+    parts = four-true (inRange (s .m)) (inRange (s .h)) (typed s) (allBelow 16 (shaftInPlace s)) e
 
     pub shafts-in-range : (0 < s .m) × (s .m ≤ 16)
     shafts-in-range = range (s .m) (parts .0)
@@ -133,8 +140,13 @@ module _ (s : Store) where
 
     pub arrays-sized : (length (s .heights) ≡ 16) × (length (s .slots) ≡ 256)
     arrays-sized =
-        let p = both-true (eqb (length (s .heights)) 16) (eqb (length (s .slots)) 256) (parts .2) in
+        let p = both-true (eqb (length (s .heights)) 16) (eqb (length (s .slots)) 256) (both-true _ (allBytes (s .slots)) (parts .2) .0) in
         (eqb-true (length (s .heights)) 16 (p .0), eqb-true (length (s .slots)) 256 (p .1))
+
+    slots-bytes : (i : ℕ) → getD (s .slots) i 0 < 256
+    slots-bytes =
+        bytes-at (s .slots)
+        (both-true (eqb (length (s .heights)) 16 && eqb (length (s .slots)) 256) (allBytes (s .slots)) (parts .2) .1)
 
     pub each-in-place : (x : ℕ) → x < 16 → shaftInPlace s x ≡ true
     each-in-place = all-true 16 (shaftInPlace s) (parts .3)
@@ -151,6 +163,7 @@ module _ (s : Store) where
     in-place-shaped low = record {
       heights-sized = arrays-sized .0;
       slots-sized = arrays-sized .1;
+      bytes = slots-bytes;
       shafts = shafts-in-range .1;
       rows = rows-in-range .1;
       heights = λ x. elim (decLt x (s .m)) [ yes h ↦ low x h | no h ↦ omega (arith, no-height-beyond x (omega arith)) ];
@@ -161,5 +174,5 @@ module _ (s : Store) where
   -- a shaped store with a shaft and a row is in place
   pub shaped-in-place : Shaped s → 0 < s .m → 0 < s .h → inPlace s ≡ true
   shaped-in-place p m h =
-      by-shafts s m (p .shafts) h (p .rows) (p .heights-sized) (p .slots-sized)
+      by-shafts s m (p .shafts) h (p .rows) (p .heights-sized) (p .slots-sized) (p .bytes)
       ∙ all-of 16 (shaftInPlace s) (λ x i. shaft-in-place s x (p .none-beyond x) (λ k. p .none-above x k i))

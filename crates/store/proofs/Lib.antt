@@ -4,12 +4,15 @@ pub mod Faulted
 pub mod InPlace
 pub mod Lifting
 pub mod MarkLaws
+pub mod Numbered
 pub mod Once
 pub mod Played
 pub mod Playing
 pub mod Refusals
 pub mod Replays
 pub mod Rows
+pub mod Space
+pub mod Typed
 pub mod Verdicts
 pub mod Views
 pub mod Walk

@@ -18,6 +18,7 @@ use Rattle.store.specs.Promises.{ReplayIs}
 use Rattle.store.specs.Sound.{Shaped}
 use Rattle.store.proofs.Checks.{fault-one}
 use Rattle.store.proofs.Lifting.{refusal-one}
+use Rattle.store.proofs.Numbered.{only-end}
 use Rattle.store.proofs.Refusals.{none-allowed}
 use Rattle.store.proofs.Replays.{replay-goes, replay-stops}
 
@@ -46,7 +47,7 @@ answers : (o : Outcome) (s t : Store) (l : List ℕ) (n : ℕ) (v : End) → rep
 answers o s t l n v p r z e = record {
   store = sym r ∙ ap (λ (o : Outcome). o .reached) (sym p);
   count = omega (arith, ap (λ (o : Outcome). o .count) p);
-  end = e ∙ ap (λ (o : Outcome). o .number) (sym p);
+  end = only-end (e ∙ ap (λ (o : Outcome). o .number) (sym p));
 }
 
 -- the lift that a byte names, judged by the heights at i and j
@@ -119,7 +120,7 @@ replay-refused s l f e =
     record {
       store = ap (λ (o : Outcome). o .reached) (sym p);
       count = ap (λ (o : Outcome). o .count) (sym p);
-      end = ap (λ (o : Outcome). o .number) (sym p);
+      end = only-end (ap (λ (o : Outcome). o .number) (sym p));
     }
   where
     go : (k : ℕ) → storeFault s ≡ k → (k ≡ 0 → ⊥) → replay s l ≡ record { reached = s; count = 0; number = k }

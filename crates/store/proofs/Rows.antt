@@ -9,6 +9,7 @@ use lib.Seq.{getD-set-same, getD-set-other}
 use Rattle.store.specs.declared.Store.{Store}
 use Rattle.store.specs.Slots.{height, slot, downward, stack}
 use Rattle.store.specs.Lifts.{placedAt}
+use Rattle.store.proofs.Typed.{bytes-set}
 
 -- row n of shaft x in a list of slots
 abbrev pub row : List ℕ → ℕ → ℕ → ℕ
@@ -24,6 +25,17 @@ pub placed-length : (l : List ℕ) (x n c : ℕ) → length (placedAt l x n c) �
 unfolding placedAt
 placed-length l x zero c = refl
 placed-length l x (suc k) c = length-set l (16 * x + k) c
+
+-- rows of bytes, of which one is written
+pub placed-bytes : (l : List ℕ) (x n c : ℕ) → c < 256 → ((i : ℕ) → getD l i 0 < 256) → (i : ℕ) → getD (placedAt l x n c) i 0 < 256
+unfolding placedAt
+placed-bytes l x zero c h b = b
+placed-bytes l x (suc k) c h b = bytes-set l (16 * x + k) c h b
+
+pub slot-byte : (s : Store) (x n : ℕ) → ((i : ℕ) → getD (s .slots) i 0 < 256) → slot s x n < 256
+unfolding slot
+slot-byte s x zero b = omega arith
+slot-byte s x (suc k) b = b (16 * x + k)
 
 -- the row written holds what was written
 pub placed-same : (l : List ℕ) (x n c : ℕ) → length l ≡ 256 → x < 16 → 0 < n → n ≤ 16 → row (placedAt l x n c) x n ≡ c

@@ -13,7 +13,7 @@ use Rattle.store.specs.declared.Store.{Store}
 use Rattle.store.specs.Slots.{depth, height, slot, downward, stack}
 use Rattle.store.specs.Lifts.{Allowed, placedAt, lifted}
 use Rattle.store.specs.Sound.{Shaped}
-use Rattle.store.proofs.Rows.{row, slot-row, placed-length, placed-same, placed-other, stack-length, stack-top, same-rows, rows-same}
+use Rattle.store.proofs.Rows.{row, slot-row, placed-length, placed-bytes, slot-byte, placed-same, placed-other, stack-length, stack-top, same-rows, rows-same}
 
 -- Definition 3.2, slot by slot: the slot left is empty, the slot entered holds the cassette, every other slot is as it was, and so are the heights
 -- but for the two shafts.
@@ -106,6 +106,7 @@ lifted-shaped s a b p q =
     record {
       heights-sized = simp length-set (p .heights-sized);
       slots-sized = simp (length-set, placed-length) (p .slots-sized);
+      bytes = placed-bytes (placedAt (s .slots) a (height s a) 0) b (suc (height s b)) _ (slot-byte s a (height s a) (p .bytes)) (placed-bytes (s .slots) a (height s a) 0 (omega arith) (p .bytes));
       shafts = p .shafts;
       rows = p .rows;
       heights = at-and-elsewhere (λ x. height t x ≤ s .h) a b (omega (arith, p .heights a)) (omega arith)

@@ -1,7 +1,7 @@
 -- When a store given as a value is accepted, and else which of the numbers 12, 3, 4, 5, 6 refuses it (document 01, "Refused because of the input" and
 -- "Which comes first": "A store given as a value is checked for 12, then for 3, 4, 5 and 6 in image order"). 0 is no fault.
 use mathlib.Core.Bool.{Bool, true, false, not, _&&_, _||_}
-use mathlib.Core.List.{List, _++_}
+use mathlib.Core.List.{List, [], _∷_, _++_}
 use mathlib.Core.Path.{_≡_}
 use Prim.Native.Nat.{ℕ, zero, suc, _+_, _*_}
 use lib.ListN.{length, getD}
@@ -42,14 +42,20 @@ shaftInPlace s x = leb (height s x) (usable s x) && allBelow 16 (slotInPlace s x
 abbrev pub inRange : ℕ → Bool
 inRange k = ltb 0 k && leb k 16
 
--- The arrays of a store value have 16 and 256 places, which the type of its fields says; here it is said of every value.
-abbrev pub sized : Store → Bool
-sized s = eqb (length (s .heights)) 16 && eqb (length (s .slots)) 256
+-- every number of a list is one of 0 to 255
+unfoldable pub allBytes : List ℕ → Bool
+allBytes [] = true
+allBytes (c ∷ l) = ltb c 256 && allBytes l
+
+-- The arrays of a store value have 16 and 256 places, and a slot holds a number 0 to 255 ("A cassette is a number 1 to 255. 0 marks an empty slot"). The
+-- types of the fields say so of every value that code can hold; here it is said of every value.
+abbrev pub typed : Store → Bool
+typed s = (eqb (length (s .heights)) 16 && eqb (length (s .slots)) 256) && allBytes (s .slots)
 
 -- number 12 does not apply
 unfoldable pub inPlace : Store → Bool
-unfolding allBelow shaftInPlace
-inPlace s = ((inRange (s .m) && inRange (s .h)) && sized s) && allBelow 16 (shaftInPlace s)
+unfolding allBelow shaftInPlace allBytes
+inPlace s = ((inRange (s .m) && inRange (s .h)) && typed s) && allBelow 16 (shaftInPlace s)
 
 -- "4. A cassette number 0. 5. A cassette number that stood earlier in the image." (4 before 5)
 abbrev pub cassetteFault : List ℕ → ℕ → ℕ

@@ -24,8 +24,8 @@ byteOf l = liftByte (l .left) (l .entered)
 abbrev pub liftOf : ℕ → Lift
 liftOf b = record { left = left b; entered = entered b }
 
-abbrev pub bytesOf : List Lift → List ℕ
-bytesOf ls = map byteOf ls
+abbrev pub liftBytes : List Lift → List ℕ
+liftBytes ls = map byteOf ls
 
 -- a list turned about: reversed, with the two shafts of each lift exchanged
 abbrev pub turnedByte : ℕ → ℕ

@@ -5,8 +5,6 @@ use Prim.Native.Nat.{ℕ, _+_, _/_, _%_, _^_}
 use lib.ListN.{getD, set, replicate}
 use lib.Bits.{bitOr}
 use lib.Count.{ones}
-use Rattle.store.specs.declared.Store.{Store}
-use Rattle.store.specs.Slots.{cassettes}
 
 abbrev pub noMarks : List ℕ
 noMarks = replicate 4 0
@@ -28,7 +26,3 @@ withMarks w (c ∷ l) = withMarks (withMark w c) l
 -- "the number of marks": the ones of the four words
 unfoldable pub markCount : List ℕ → ℕ
 markCount w = ones (getD w 0 0) + ones (getD w 1 0) + ones (getD w 2 0) + ones (getD w 3 0)
-
-unfoldable pub marksOf : Store → List ℕ
-unfolding withMarks
-marksOf s = withMarks noMarks (cassettes s)

@@ -1,4 +1,6 @@
 -- The number of document 01 ("Refused because of the input", "Refused because of the state") for each case of each answer; 0 where nothing is refused.
+-- No two cases of one answer have the same number, and the promises say so each time: an answer is the only one with its number.
+use mathlib.Core.Path.{_≡_}
 use Prim.Native.Nat.{ℕ}
 use Rattle.store.specs.declared.Fault.{Fault}
 use Rattle.store.specs.declared.Fault.the-variants.{OutOfPlace, TooHigh, NumberZero, Twice, TooMany}
@@ -9,6 +11,11 @@ use Rattle.store.specs.declared.Refusal.the-variants.{Shafts, Empty, Ful
 use Rattle.store.specs.declared.Answer.{Answer}
 use Rattle.store.specs.declared.End.{End}
 use Rattle.store.specs.declared.lift.Judged.{Judged}
+
+-- The answer a is the only one with the number k.
+pub record Only {A : Type 0} (number : A → ℕ) (k : ℕ) (a : A) : Type 0 where
+  pub has : number a ≡ k
+  pub alone : (b : A) → number b ≡ k → b ≡ a
 
 abbrev pub faultNumber : Fault → ℕ
 faultNumber OutOfPlace = 12

@@ -1,6 +1,6 @@
 -- The store, slot by slot (document 000, Definition 3.1; document 01, "The store"). A store value has m shafts of depth h, counted from 0; a height
 -- for each shaft; and a number for each slot, 16 slots for a shaft, from row 1 at the bottom.
-use mathlib.Core.Bool.{cond, _&&_}
+use mathlib.Core.Bool.{Bool, cond, _&&_}
 use mathlib.Core.List.{List, [], _∷_, _++_}
 use Prim.Native.Nat.{ℕ, zero, suc, _+_, _-_, _*_}
 use lib.Dec.{leb, ltb}
@@ -20,10 +20,14 @@ unfoldable pub slot : Store → ℕ → ℕ → ℕ
 slot s x zero = 0
 slot s x (suc k) = getD (s .slots) (16 * x + k) 0
 
--- what a caller who names a shaft and a row is told: 0 where there is no such slot
+-- the store has row y of shaft x: by its m and the shaft's depth, and within the 16 by 16 slots that any value records
+abbrev pub hasSlot : Store → ℕ → ℕ → Bool
+hasSlot s x y = ((ltb x (s .m) && ltb x 16) && ltb 0 y) && (leb y (depth s x) && leb y 16)
+
+-- what a caller who names a shaft and a row is told: 0 where the store has no such slot
 unfoldable pub contentOf : Store → ℕ → ℕ → ℕ
 unfolding slot
-contentOf s x y = cond ((ltb x 16 && ltb 0 y) && leb y 16) (slot s x y) 0
+contentOf s x y = cond (hasSlot s x y) (slot s x y) 0
 
 -- rows 1 to k of shaft x, read upward
 unfoldable pub upward : Store → ℕ → ℕ → List ℕ

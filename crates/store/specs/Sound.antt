@@ -2,15 +2,16 @@
 -- nothing stands elsewhere.
 use mathlib.Core.Path.{_≡_}
 use Prim.Native.Nat.{ℕ, suc, _≤_, _<_}
-use lib.ListN.{length}
+use lib.ListN.{length, getD}
 use Rattle.stacks.specs.Count.{count}
 use Rattle.store.specs.declared.Store.{Store}
 use Rattle.store.specs.Slots.{depth, height, slot, cassettes, cassetteCount}
 
--- the arrays have their lengths, m and h are at most 16, no height passes the depth, and nothing is recorded beyond
+-- the arrays have their lengths and hold bytes, m and h are at most 16, no height passes the depth, and nothing is recorded beyond
 pub record Shaped (s : Store) : Type 0 where
   pub heights-sized : length (s .heights) ≡ 16
   pub slots-sized : length (s .slots) ≡ 256
+  pub bytes : (i : ℕ) → getD (s .slots) i 0 < 256
   pub shafts : s .m ≤ 16
   pub rows : s .h ≤ 16
   pub heights : (x : ℕ) → height s x ≤ depth s x

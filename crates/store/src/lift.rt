@@ -8,9 +8,9 @@ use crate::Store;
 use crate::Verdict;
 use crate::wide;
 ghost use mathlib.Core.Path.{_≡_};
-ghost use Rattle.store.specs.Slots.{height, contentOf};
+ghost use Rattle.store.specs.Slots.{height, hasSlot, contentOf};
 ghost use Rattle.store.specs.Lifts.{Allowed, refusalBy, liftRefusal, lifted};
-ghost use Rattle.store.specs.Numbers.{judgedNumber};
+ghost use Rattle.store.specs.Numbers.{Only, judgedNumber};
 ghost use Rattle.store.specs.Promises.{LiftIs};
 ghost use Rattle.store.specs.Sound.{Shaped};
 
@@ -22,7 +22,7 @@ pub enum Judged {
 
 // Whether a lift between two shafts of m, with these heights, the second of depth d, is allowed, or else why not.
 pub fn judge_heights(m: u8, d: u8, from: Shaft, to: Shaft, left: u8, entered: u8) -> Judged
-    ensures { λ r. ⌜ judgedNumber r ≡ refusalBy m d (from .0) (to .0) left entered ⌝ }
+    ensures { λ r. ⌜ Only judgedNumber (refusalBy m d (from .0) (to .0) left entered) r ⌝ }
 {
     if m <= from.0 {
         return Judged::Refused(Refusal::Shafts);
@@ -44,7 +44,7 @@ pub fn judge_heights(m: u8, d: u8, from: Shaft, to: Shaft, left: u8, entered: u8
 
 // Whether a lift is allowed in a store, or else why not.
 pub fn judge(s: Store, from: Shaft, to: Shaft) -> Judged
-    ensures { λ r. ⌜ judgedNumber r ≡ liftRefusal s (from .0) (to .0) ⌝ }
+    ensures { λ r. ⌜ Only judgedNumber (liftRefusal s (from .0) (to .0)) r ⌝ }
 {
     judge_heights(s.m, s.h, from, to, s.height(from), s.height(to))
 }
@@ -85,21 +85,34 @@ impl Store {
         if i < 16 { self.heights[i] } else { 0 }
     }
 
-    // The content of a slot, 0 for an empty one and where there is no such slot.
+    // Whether the store has a row of a shaft.
+    pub fn has_slot(self, x: Shaft, y: Row) -> bool
+        ensures { λ r. ⌜ r ≡ hasSlot self (x .0) (y .0) ⌝ }
+    {
+        if self.m <= x.0 {
+            return false;
+        }
+        if 16 <= x.0 {
+            return false;
+        }
+        if y.0 == 0 {
+            return false;
+        }
+        if self.h < y.0 {
+            return false;
+        }
+        y.0 <= 16
+    }
+
+    // The content of a slot, 0 for an empty one and where the store has no such slot.
     pub fn content(self, x: Shaft, y: Row) -> u8
         ensures { λ r. ⌜ r ≡ contentOf self (x .0) (y .0) ⌝ }
     {
+        if !self.has_slot(x, y) {
+            return 0;
+        }
         let i = wide(x.0);
         let row = wide(y.0);
-        if 16 <= i {
-            return 0;
-        }
-        if row == 0 {
-            return 0;
-        }
-        if 16 < row {
-            return 0;
-        }
         self.slots[16 * i + (row - 1)]
     }
 

@@ -50,7 +50,7 @@ cast-result-3 c = search needs
 returns-3 : tie.Need-returns-3
 returns-3 c =
     let e = c .before .before .before .before in
-    reach-answered (start (e .before .before .before)) (goal e) (c .before .reachable .ensures) (c .reach-number .ensures)
+    reach-answered (start (e .before .before .before)) (goal e) (c .before .reachable .result) (c .before .reachable .ensures) (c .reach-number .ensures)
 
 pub halyard-reachable-spec : {M : Type 1} → statement M
 halyard-reachable-spec =

@@ -1,15 +1,14 @@
--- `make_list` meets its contract: a number that refuses the stores, 10, 15 by the rule, nothing to do, or the list made.
+-- `make_list` meets its contract: the fault of the pair, 10, 15 by the rule, nothing to do, or the list made.
 use borrow.Author.Needs.{needs}
 use borrow.Author.Tests.{not-true, not-false}
-use mathlib.Core.Logic.{_⊎_, ⊎-elim}
 use mathlib.Core.Path.{_≡_}
 use Prim.Native.Nat.{_≤_}
 use native.Mathlib.Omega.{arith}
 use lib.ListN.{length}
 use Rattle.store.specs.Slots.{cassetteCount, listSpace}
 use Rattle.reach.specs.Pairs.{Comparable}
-use Rattle.rules.proofs.Answers.{comparable-only, comparable-by, count-by}
-use Rattle.planner.proofs.PlanAnswers.{counted-few, space-counted, refused-by-pair, refused-for-space, unreachable-by-rule, listed-nothing, listed-made}
+use Rattle.rules.proofs.Answers.{comparable-by, count-by, faulty-by}
+use Rattle.planner.proofs.PlanAnswers.{counted-few, space-counted, refused-as, untouched, not-by-rule, listed-nothing, listed-made}
 use Rattle.planner.proofs.make_list.Statement.{statement}
 use Rattle.planner.proofs.make_list.Tie as tie
 
@@ -33,6 +32,18 @@ enough c = omega (arith, space (c .before), c .if1 .left)
 compare-requires : tie.Need-compare-requires
 compare-requires c κs = search needs
 
+enum-known-pair : tie.Need-enum-known-pair
+enum-known-pair c = search needs
+
+refused-requires : tie.Need-refused-requires
+refused-requires c κs = search needs
+
+returns : tie.Need-returns
+returns c =
+    let a = c .before .before .before .before .before .before .args in
+    refused-as (a .start) (a .goal) (a .out .now) _ _ (c .refused .ensures)
+    (faulty-by (a .start) (a .goal) _ _ (c .before .before .before .before .compare .ensures) (c .before .before .pair .given .1)) untouched
+
 enum-told : tie.Need-enum-told
 enum-told c = search needs
 
@@ -43,30 +54,42 @@ list-space-requires : tie.Need-list-space-requires
 list-space-requires c κs =
     omega (arith, c .wide .ensures, counted (c .before), counted-few _ _ (both (c .before)))
 
-returns : tie.Need-returns
-returns c =
-    let d = c .before .before .before in
-    refused-for-space _ _ _ (both d) (omega (arith, space (c .before), c .if1 .taken))
+refused-requires-2 : tie.Need-refused-requires-2
+refused-requires-2 c κs = search needs
+
+returns-2 : tie.Need-returns-2
+returns-2 c =
+    let d = c .before .before .before .before in
+    let a = entry d .args in
+    refused-as (a .start) (a .goal) (a .out .now) _ _ (c .refused2 .ensures)
+    (both d, omega (arith, space (c .before .before), c .before .if1 .taken)) untouched
 
 rule-holds-requires : tie.Need-rule-holds-requires
 rule-holds-requires c κs =
     let d = c .before .before .before in
     (both d, counted d)
 
-returns-2 : tie.Need-returns-2
-returns-2 c =
-    let e = c .before .before in
-    unreachable-by-rule _ _ _ (both (e .before .before .before)) (enough e) (c .before .rule-holds .ensures .not-so (not-true _ (c .if2 .taken)))
-
-same-store-requires : tie.Need-same-store-requires
-same-store-requires c κs =
-    let p = both (c .before .before .before .before .before) in
-    (p .shafts, p .depth)
+refused-requires-3 : tie.Need-refused-requires-3
+refused-requires-3 c κs = search needs
 
 returns-3 : tie.Need-returns-3
 returns-3 c =
-    let e = c .before .before .before .before in
-    listed-nothing _ _ _ (both (e .before .before .before)) (enough e) (c .before .same-store .ensures .so (c .if3 .taken))
+    let e = c .before .before .before in
+    let d = e .before .before .before in
+    let a = entry d .args in
+    refused-as (a .start) (a .goal) (a .out .now) _ _ (c .refused3 .ensures)
+    (not-by-rule (a .start) (a .goal) (a .out .now) (both d) (enough e) (c .before .before .rule-holds .ensures .not-so (not-true _ (c .before .if2 .taken)))) untouched
+
+same-store-requires : tie.Need-same-store-requires
+same-store-requires c κs = search needs
+
+listed-requires : tie.Need-listed-requires
+listed-requires c κs = search needs
+
+returns-4 : tie.Need-returns-4
+returns-4 c =
+    let e = c .before .before .before .before .before in
+    listed-nothing _ _ _ (both (e .before .before .before)) (enough e) _ (c .listed .ensures) (c .before .before .same-store .ensures .so (c .before .if3 .taken))
 
 make-requires : tie.Need-make-requires
 make-requires c κs =
@@ -75,37 +98,39 @@ make-requires c κs =
     let d = e .before .before .before in
     (both d, (r .before .rule-holds .ensures .so (not-false _ (r .if2 .left)), (counted d, enough e)))
 
+listed-requires-2 : tie.Need-listed-requires-2
+listed-requires-2 c κs = search needs
+
 same-length : tie.Need-same-length
 same-length c = search needs
 
-returns-4 : tie.Need-returns-4
-returns-4 c =
-    let m = c .before .before in
-    let n = m .before .before in
-    let e = n .before .before .before .before in
-    listed-made _ _ _ (both (e .before .before .before)) (enough e) (n .before .same-store .ensures .not-so (n .if3 .left)) (m .make .ensures)
-
 returns-5 : tie.Need-returns-5
 returns-5 c =
-    let p = c .before .compare .result .pair in
-    refused-by-pair _ _ _ p (c .before .compare .ensures .pair) λ z.
-    let k : (0 ≡ 1) ⊎ ((0 ≡ 2) ⊎ ((0 ≡ 3) ⊎ (0 ≡ 4))) = rw (comparable-only p z) at (c .match .keys2) in
-    ⊎-elim (λ w. omega arith) (⊎-elim (λ w. omega arith) (⊎-elim (λ w. omega arith) (λ w. omega arith))) k
+    let m = c .before .before .before in
+    let n = m .before .before in
+    let e = n .before .before .before .before in
+    listed-made _ _ _ (both (e .before .before .before)) (enough e) _ (c .listed2 .ensures) (n .before .same-store .ensures .not-so (n .if3 .left)) (m .make .ensures)
 
 pub make-list-spec : {M : Type 1} → statement M
 make-list-spec =
     tie.close
     (tie.spec
     compare-requires
+    enum-known-pair
+    refused-requires
+    returns
     enum-told
     wide-requires
     list-space-requires
-    returns
-    rule-holds-requires
+    refused-requires-2
     returns-2
-    same-store-requires
+    rule-holds-requires
+    refused-requires-3
     returns-3
-    make-requires
-    same-length
+    same-store-requires
+    listed-requires
     returns-4
+    make-requires
+    listed-requires-2
+    same-length
     returns-5)

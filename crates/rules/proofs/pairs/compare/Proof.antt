@@ -1,25 +1,17 @@
 -- `compare` meets its contract: the start, the goal, 8, then 9 by the marks.
 use borrow.Author.Needs.{needs}
 use borrow.Author.Tests.{not-true, not-false}
-use mir.Syntax.{w8, w64}
+use mir.Syntax.{w64}
 use mir.Val.{Fits}
 use Prim.Native.Nat.{ℕ, _^_, _<_}
-use native.Mathlib.Omega.{arith}
 use lib.ListN.{getD}
-use Rattle.store.proofs.Checks.{fault-one, accepted-none, refused-one}
-use Rattle.rules.specs.declared.pairs.Pair.{Pair}
+use Rattle.store.proofs.Checks.{accepted-none, refused-one}
 use Rattle.rules.proofs.Answers.{refused-as, compared-as}
-use Rattle.rules.proofs.Faults.{Marked, start-faulted, goal-faulted, shafts-differ, depths-differ, marks-differ, marks-agree}
+use Rattle.rules.proofs.Faults.{Marked, shafts-differ, depths-differ, frames-agree, marks-differ, marks-agree}
 use Rattle.rules.proofs.pairs.compare.Statement.{statement}
 use Rattle.rules.proofs.pairs.compare.Tie as tie
 
--- the bytes of the slots and the words of the marks, as the arrays have them
-start-bytes : (c : tie.Start) (i : ℕ) → getD (c .args .start .slots) i 0 < 256
-start-bytes c i = let f : Fits w8 (getD (c .args .start .slots) i 0) = search needs in f .fits
-
-goal-bytes : (c : tie.Start) (i : ℕ) → getD (c .args .goal .slots) i 0 < 256
-goal-bytes c i = let f : Fits w8 (getD (c .args .goal .slots) i 0) = search needs in f .fits
-
+-- the words of the marks, as the arrays have them
 start-words : (c : tie.After-check) (i : ℕ) → getD (c .check .result .marks .words) i 0 < 2 ^ 64
 start-words c i = let f : Fits w64 (getD (c .check .result .marks .words) i 0) = search needs in f .fits
 
@@ -44,9 +36,8 @@ refused-requires c κs = search needs
 
 returns : tie.Need-returns
 returns c =
-    let f = c .before .before .start-verdict .given .0 .0 in
-    let e = refused-one f _ _ _ (c .before .before .before .before .check .ensures) (c .before .before .start-verdict .given .1) in
-    refused-as _ _ (Pair.StartRefused f) _ (c .refused .ensures) (start-faulted _ _ _ e (fault-one f)) (fault-one f)
+    let v = c .before .before .start-verdict .given in
+    refused-as _ _ _ _ (c .refused .ensures) (refused-one (v .0 .0) _ _ _ (c .before .before .before .before .check .ensures) (v .1))
 
 enum-told : tie.Need-enum-told
 enum-told c = search needs
@@ -62,9 +53,9 @@ refused-requires-2 c κs = search needs
 
 returns-2 : tie.Need-returns-2
 returns-2 c =
-    let f = c .before .before .goal-verdict .given .0 .0 in
-    let e = refused-one f _ _ _ (c .before .before .before .before .check2 .ensures) (c .before .before .goal-verdict .given .1) in
-    refused-as _ _ (Pair.GoalRefused f) _ (c .refused2 .ensures) (goal-faulted _ _ (start-marked (c .before .before .before .before .before) .0) _ e (fault-one f)) (fault-one f)
+    let v = c .before .before .goal-verdict .given in
+    refused-as _ _ _ _ (c .refused2 .ensures)
+    (start-marked (c .before .before .before .before .before) .0, refused-one (v .0 .0) _ _ _ (c .before .before .before .before .check2 .ensures) (v .1))
 
 enum-told-2 : tie.Need-enum-told-2
 enum-told-2 c = search needs
@@ -75,8 +66,9 @@ refused-requires-3 c κs = search needs
 returns-3 : tie.Need-returns-3
 returns-3 c =
     let g = c .before .before .before .before in
-    refused-as _ _ Pair.Frames _ (c .refused3 .ensures)
-    (shafts-differ _ _ (start-marked (g .before .before .before) .0) (goal-marked g .0) (c .before .if1 .taken)) (omega arith)
+    let a = g .before .before .before .before .before .before .args in
+    refused-as _ _ _ _ (c .refused3 .ensures)
+    ((start-marked (g .before .before .before) .0, goal-marked g .0), shafts-differ (a .start) (a .goal) (c .before .if1 .taken))
 
 refused-requires-4 : tie.Need-refused-requires-4
 refused-requires-4 c κs = search needs
@@ -84,8 +76,9 @@ refused-requires-4 c κs = search needs
 returns-4 : tie.Need-returns-4
 returns-4 c =
     let g = c .before .before .before .before .before .before .before in
-    refused-as _ _ Pair.Frames _ (c .refused4 .ensures)
-    (depths-differ _ _ (start-marked (g .before .before .before) .0) (goal-marked g .0) (c .before .before .before .before .if1 .left) (c .before .if2 .taken)) (omega arith)
+    let a = g .before .before .before .before .before .before .args in
+    refused-as _ _ _ _ (c .refused4 .ensures)
+    ((start-marked (g .before .before .before) .0, goal-marked g .0), depths-differ (a .start) (a .goal) (c .before .before .before .before .if1 .left) (c .before .if2 .taken))
 
 same-marks-requires : tie.Need-same-marks-requires
 same-marks-requires c κs = search needs
@@ -97,9 +90,15 @@ returns-5 : tie.Need-returns-5
 returns-5 c =
     let g = c .before .before .before .before .before .before .before .before .before .before .before in
     let f = g .before .before .before in
-    refused-as _ _ Pair.Cassettes _ (c .refused5 .ensures)
-    (marks-differ _ _ _ _ (start-marked f) (goal-marked g) (c .before .before .before .before .before .before .before .before .if1 .left) (c .before .before .before .before .before .if2 .left) (start-words (f .before .before))
-    (goal-words (g .before .before)) (c .before .before .same-marks .ensures .not-so (not-true _ (c .before .if3 .taken)))) (omega arith)
+    let a = f .before .before .before .args in
+    refused-as _ _ _ _ (c .refused5 .ensures) (
+      (start-marked f .0, goal-marked g .0),
+      (
+        frames-agree (a .start) (a .goal) (c .before .before .before .before .before .before .before .before .if1 .left) (c .before .before .before .before .before .if2 .left),
+        marks-differ _ _ _ _ (start-marked f) (goal-marked g) (start-words (f .before .before)) (goal-words (g .before .before))
+            (c .before .before .same-marks .ensures .not-so (not-true _ (c .before .if3 .taken))),
+      ),
+    )
 
 count-requires : tie.Need-count-requires
 count-requires c κs = search needs
@@ -108,10 +107,9 @@ returns-6 : tie.Need-returns-6
 returns-6 c =
     let g = c .before .before .before .before .before .before .before .before .before .before .before in
     let f = g .before .before .before in
-    let a = f .before .before .before in
     compared-as _ _ (c .count .result) _
-    (marks-agree _ _ _ _ (start-marked f) (goal-marked g) (c .before .before .before .before .before .before .before .before .if1 .left) (c .before .before .before .before .before .if2 .left) (start-bytes a) (goal-bytes a)
-    (c .before .before .same-marks .ensures .so (not-false _ (c .before .if3 .left)))) (start-bytes a) (start-marked f) (c .count .ensures)
+    (marks-agree _ _ _ _ (start-marked f) (goal-marked g) (c .before .before .before .before .before .before .before .before .if1 .left) (c .before .before .before .before .before .if2 .left)
+    (c .before .before .same-marks .ensures .so (not-false _ (c .before .if3 .left)))) (start-marked f) (c .count .ensures)
 
 pub compare-spec : {M : Type 1} → statement M
 compare-spec =

@@ -4,7 +4,7 @@ use mathlib.Core.List.{List}
 use mathlib.Core.Path.{_≡_, ap}
 use Prim.Native.Nat.{ℕ}
 use lib.ListN.{length, getD}
-use Rattle.rules.proofs.Deciding.{fails}
+use Rattle.reach.proofs.Deciding.{fails}
 use Rattle.rules.proofs.MarkSets.{last-word}
 use Rattle.rules.proofs.pairs.same_marks.Statement.{statement}
 use Rattle.rules.proofs.pairs.same_marks.Tie as tie

@@ -2,7 +2,7 @@
 use borrow.Author.Needs.{needs}
 use native.Mathlib.Omega.{arith}
 use Rattle.store.proofs.Acceptance.{accepted-shaped}
-use Rattle.rules.proofs.Deciding.{decides-as}
+use Rattle.reach.proofs.Deciding.{decides-as}
 use Rattle.rules.proofs.RuleLaws.{count-most, both-hold, few-rule, more-rule}
 use Rattle.rules.proofs.rule.rule_holds.Statement.{statement}
 use Rattle.rules.proofs.rule.rule_holds.Tie as tie

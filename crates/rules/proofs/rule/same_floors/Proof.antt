@@ -6,7 +6,7 @@ use mathlib.Core.Path.{_≡_}
 use Prim.Native.Nat.{ℕ, _-_, _≤_, _<_}
 use native.Mathlib.Omega.{arith}
 use Rattle.store.specs.Slots.{upward}
-use Rattle.rules.proofs.Deciding.{holds, fails}
+use Rattle.reach.proofs.Deciding.{holds, fails}
 use Rattle.rules.proofs.rule.same_floors.Statement.{statement}
 use Rattle.rules.proofs.rule.same_floors.Tie as tie
 

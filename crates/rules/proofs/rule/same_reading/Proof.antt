@@ -6,14 +6,14 @@ use mathlib.Core.Path.{_≡_, sym, ap, _∙_}
 use Prim.Native.Nat.{ℕ, _-_, _≤_, _<_}
 use native.Mathlib.Omega.{arith}
 use lib.ListN.{getD}
-use Rattle.reach.specs.Rules.{reading}
-use Rattle.rules.proofs.Deciding.{holds, fails}
+use Rattle.reach.specs.Rules.{twoShaftReading}
+use Rattle.reach.proofs.Deciding.{holds, fails}
 use Rattle.rules.proofs.Places.{same-readings}
 use Rattle.rules.proofs.rule.same_reading.Statement.{statement}
 use Rattle.rules.proofs.rule.same_reading.Tie as tie
 
 abbrev Inv-loop : tie.InvT-loop
-Inv-loop s t n p₀ p = (p ≤ n) × ((k : ℕ) → k < p → getD (reading s) k 0 ≡ getD (reading t) k 0)
+Inv-loop s t n p₀ p = (p ≤ n) × ((k : ℕ) → k < p → getD (twoShaftReading s) k 0 ≡ getD (twoShaftReading t) k 0)
 
 abbrev μ-loop : tie.MeasureT-loop
 μ-loop s t n p₀ p = n - p

@@ -5,7 +5,7 @@ use mathlib.Core.Path.{_≡_}
 use Prim.Native.Nat.{ℕ, _+_, _-_, _*_, _≤_, _<_}
 use native.Mathlib.Omega.{arith}
 use lib.ListN.{getD}
-use Rattle.rules.proofs.Deciding.{holds, fails}
+use Rattle.reach.proofs.Deciding.{holds, fails}
 use Rattle.rules.proofs.Places.{rows-so, rows-each}
 use Rattle.rules.proofs.rule.same_rows.Statement.{statement}
 use Rattle.rules.proofs.rule.same_rows.Tie as tie

@@ -32,16 +32,16 @@ enum-known-r c = search needs
 returns-2 : tie.Need-returns-2
 returns-2 c =
     let g = c .before .r .given in
-    lift-refused (c .before .before .before .before .before .before .before .args .self) (c .before .before .before .before .before .before .before .args .from .0) (c .before .before .before .before .before .before .before .args .to .0) (g .0 .0) (accepted-none _ _ _ (c .before .before .before .before .before .before .check .ensures) (c .before .before .before .before .enum-told .given .1) .0) (sym (ap judgedNumber (g .1)) ∙ c .before .before .before .judge .ensures)
+    lift-refused (c .before .before .before .before .before .before .before .args .self) (c .before .before .before .before .before .before .before .args .from .0) (c .before .before .before .before .before .before .before .args .to .0) (g .0 .0) (accepted-none _ _ _ (c .before .before .before .before .before .before .check .ensures) (c .before .before .before .before .enum-told .given .1) .0) (sym (ap judgedNumber (g .1)) ∙ c .before .before .before .judge .ensures .has)
 
 enum-told-2 : tie.Need-enum-told-2
 enum-told-2 c = search needs
 
 move-top-requires : tie.Need-move-top-requires
-move-top-requires c κs = (accepted-shaped (c .before .before .before .before .before .before .args .self) (accepted-none _ _ _ (c .before .before .before .before .before .check .ensures) (c .before .before .before .enum-told .given .1) .0), none-allowed (c .before .before .before .before .before .before .args .self) (c .before .before .before .before .before .before .args .from .0) (c .before .before .before .before .before .before .args .to .0) (sym (c .before .before .judge .ensures) ∙ ap judgedNumber (c .enum-told2 .given .1)))
+move-top-requires c κs = (accepted-shaped (c .before .before .before .before .before .before .args .self) (accepted-none _ _ _ (c .before .before .before .before .before .check .ensures) (c .before .before .before .enum-told .given .1) .0), none-allowed (c .before .before .before .before .before .before .args .self) (c .before .before .before .before .before .before .args .from .0) (c .before .before .before .before .before .before .args .to .0) (sym (c .before .before .judge .ensures .has) ∙ ap judgedNumber (c .enum-told2 .given .1)))
 
 returns-3 : tie.Need-returns-3
-returns-3 c = lift-done (c .before .before .before .before .before .before .before .args .self) (c .before .before .before .before .before .before .before .args .from .0) (c .before .before .before .before .before .before .before .args .to .0) _ (accepted-none _ _ _ (c .before .before .before .before .before .before .check .ensures) (c .before .before .before .before .enum-told .given .1) .0) (sym (c .before .before .before .judge .ensures) ∙ ap judgedNumber (c .before .enum-told2 .given .1)) (c .move-top .ensures)
+returns-3 c = lift-done (c .before .before .before .before .before .before .before .args .self) (c .before .before .before .before .before .before .before .args .from .0) (c .before .before .before .before .before .before .before .args .to .0) _ (accepted-none _ _ _ (c .before .before .before .before .before .before .check .ensures) (c .before .before .before .before .enum-told .given .1) .0) (sym (c .before .before .before .judge .ensures .has) ∙ ap judgedNumber (c .before .enum-told2 .given .1)) (c .move-top .ensures)
 
 pub lift-spec : {M : Type 1} → statement M
 lift-spec =

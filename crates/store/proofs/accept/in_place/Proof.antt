@@ -1,7 +1,11 @@
 -- `in_place` meets its contract: each test is one part of `inPlace`.
 use borrow.Author.Needs.{needs}
 use mathlib.Core.Path.{sym, _∙_}
+use mir.Syntax.{w8}
+use mir.Val.{Fits}
+use Prim.Native.Nat.{ℕ}
 use native.Mathlib.Omega.{arith}
+use lib.ListN.{getD}
 use Rattle.store.proofs.InPlace.{shafts-none, shafts-above, rows-none, rows-above, by-shafts}
 use Rattle.store.proofs.accept.in_place.Statement.{statement}
 use Rattle.store.proofs.accept.in_place.Tie as tie
@@ -22,7 +26,9 @@ shafts-in-place-requires : tie.Need-shafts-in-place-requires
 shafts-in-place-requires c κs = search needs
 
 returns-5 : tie.Need-returns-5
-returns-5 c = c .shafts-in-place .ensures ∙ sym (by-shafts (c .before .before .before .before .before .before .before .before .before .args .s) (omega arith) (omega arith) (omega arith) (omega arith) (search needs) (search needs))
+returns-5 c =
+    let b : (i : ℕ) → Fits w8 (getD (c .before .before .before .before .before .before .before .before .before .args .s .slots) i 0) = λ i. search needs in
+    c .shafts-in-place .ensures ∙ sym (by-shafts (c .before .before .before .before .before .before .before .before .before .args .s) (omega arith) (omega arith) (omega arith) (omega arith) (search needs) (search needs) λ i. b i .fits)
 
 pub in-place-spec : {M : Type 1} → statement M
 in-place-spec =

@@ -2,6 +2,7 @@
 use borrow.Author.Needs.{needs}
 use mathlib.Core.Path.{_∙_}
 use Rattle.store.specs.Lifts.{liftRefusal}
+use Rattle.store.proofs.Numbered.{only-judged}
 use Rattle.store.proofs.lift.judge.Statement.{statement}
 use Rattle.store.proofs.lift.judge.Tie as tie
 
@@ -16,7 +17,7 @@ judge-heights-requires c κs = search needs
 
 returns : tie.Need-returns
 unfolding liftRefusal
-returns c = c .judge-heights .ensures ∙ rw (c .before .before .height .ensures, c .before .height2 .ensures)
+returns c = only-judged (c .judge-heights .ensures .has ∙ rw (c .before .before .height .ensures, c .before .height2 .ensures))
 
 pub judge-spec : {M : Type 1} → statement M
 judge-spec = tie.close (tie.spec height-requires height-requires-2 judge-heights-requires returns)

@@ -1,27 +1,28 @@
 -- `judge_heights` meets its contract: each test is one case of `refusalBy`.
 use mathlib.Core.Path.{sym}
 use native.Mathlib.Omega.{arith}
+use Rattle.store.proofs.Numbered.{only-judged}
 use Rattle.store.proofs.Refusals.{left-past, entered-past, one-shaft, left-empty, entered-full, none-refused}
 use Rattle.store.proofs.lift.judge_heights.Statement.{statement}
 use Rattle.store.proofs.lift.judge_heights.Tie as tie
 
 returns : tie.Need-returns
-returns c = sym (left-past (c .before .before .args .m) (c .before .before .args .d) (c .before .before .args .from .0) (c .before .before .args .to .0) (c .before .before .args .left) (c .before .before .args .entered) (omega arith))
+returns c = only-judged (sym (left-past (c .before .before .args .m) (c .before .before .args .d) (c .before .before .args .from .0) (c .before .before .args .to .0) (c .before .before .args .left) (c .before .before .args .entered) (omega arith)))
 
 returns-2 : tie.Need-returns-2
-returns-2 c = sym (entered-past (c .before .before .before .before .args .m) (c .before .before .before .before .args .d) (c .before .before .before .before .args .from .0) (c .before .before .before .before .args .to .0) (c .before .before .before .before .args .left) (c .before .before .before .before .args .entered) (omega arith) (omega arith))
+returns-2 c = only-judged (sym (entered-past (c .before .before .before .before .args .m) (c .before .before .before .before .args .d) (c .before .before .before .before .args .from .0) (c .before .before .before .before .args .to .0) (c .before .before .before .before .args .left) (c .before .before .before .before .args .entered) (omega arith) (omega arith)))
 
 returns-3 : tie.Need-returns-3
-returns-3 c = sym (one-shaft (c .before .before .before .before .before .before .before .args .m) (c .before .before .before .before .before .before .before .args .d) (c .before .before .before .before .before .before .before .args .from .0) (c .before .before .before .before .before .before .before .args .to .0) (c .before .before .before .before .before .before .before .args .left) (c .before .before .before .before .before .before .before .args .entered) (omega arith) (omega arith) (omega arith))
+returns-3 c = only-judged (sym (one-shaft (c .before .before .before .before .before .before .before .args .m) (c .before .before .before .before .before .before .before .args .d) (c .before .before .before .before .before .before .before .args .from .0) (c .before .before .before .before .before .before .before .args .to .0) (c .before .before .before .before .before .before .before .args .left) (c .before .before .before .before .before .before .before .args .entered) (omega arith) (omega arith) (omega arith)))
 
 returns-4 : tie.Need-returns-4
-returns-4 c = sym (left-empty (c .before .before .before .before .before .before .before .before .args .m) (c .before .before .before .before .before .before .before .before .args .d) (c .before .before .before .before .before .before .before .before .args .from .0) (c .before .before .before .before .before .before .before .before .args .to .0) (c .before .before .before .before .before .before .before .before .args .left) (c .before .before .before .before .before .before .before .before .args .entered) (omega arith) (omega arith) (omega arith) (omega arith))
+returns-4 c = only-judged (sym (left-empty (c .before .before .before .before .before .before .before .before .args .m) (c .before .before .before .before .before .before .before .before .args .d) (c .before .before .before .before .before .before .before .before .args .from .0) (c .before .before .before .before .before .before .before .before .args .to .0) (c .before .before .before .before .before .before .before .before .args .left) (c .before .before .before .before .before .before .before .before .args .entered) (omega arith) (omega arith) (omega arith) (omega arith)))
 
 returns-5 : tie.Need-returns-5
-returns-5 c = sym (entered-full (c .before .before .before .before .before .before .before .before .before .args .m) (c .before .before .before .before .before .before .before .before .before .args .d) (c .before .before .before .before .before .before .before .before .before .args .from .0) (c .before .before .before .before .before .before .before .before .before .args .to .0) (c .before .before .before .before .before .before .before .before .before .args .left) (c .before .before .before .before .before .before .before .before .before .args .entered) (omega arith) (omega arith) (omega arith) (omega arith) (omega arith))
+returns-5 c = only-judged (sym (entered-full (c .before .before .before .before .before .before .before .before .before .args .m) (c .before .before .before .before .before .before .before .before .before .args .d) (c .before .before .before .before .before .before .before .before .before .args .from .0) (c .before .before .before .before .before .before .before .before .before .args .to .0) (c .before .before .before .before .before .before .before .before .before .args .left) (c .before .before .before .before .before .before .before .before .before .args .entered) (omega arith) (omega arith) (omega arith) (omega arith) (omega arith)))
 
 returns-6 : tie.Need-returns-6
-returns-6 c = sym (none-refused (c .before .before .before .before .before .before .before .before .before .args .m) (c .before .before .before .before .before .before .before .before .before .args .d) (c .before .before .before .before .before .before .before .before .before .args .from .0) (c .before .before .before .before .before .before .before .before .before .args .to .0) (c .before .before .before .before .before .before .before .before .before .args .left) (c .before .before .before .before .before .before .before .before .before .args .entered) (omega arith) (omega arith) (omega arith) (omega arith) (omega arith))
+returns-6 c = only-judged (sym (none-refused (c .before .before .before .before .before .before .before .before .before .args .m) (c .before .before .before .before .before .before .before .before .before .args .d) (c .before .before .before .before .before .before .before .before .before .args .from .0) (c .before .before .before .before .before .before .before .before .before .args .to .0) (c .before .before .before .before .before .before .before .before .before .args .left) (c .before .before .before .before .before .before .before .before .before .args .entered) (omega arith) (omega arith) (omega arith) (omega arith) (omega arith)))
 
 pub judge-heights-spec : {M : Type 1} → statement M
 judge-heights-spec = tie.close (tie.spec returns returns-2 returns-3 returns-4 returns-5 returns-6)

@@ -21,10 +21,10 @@ abbrev μ-loop : tie.MeasureT-loop
 μ-loop list store₀ count₀ store count = length list - count
 
 ready : (c : tie.After-enum-told Inv-loop μ-loop) → Ready (c .before .before .before .before .before .before .before .before .before .before .before .loop .store .heights) (c .before .before .before .before .before .before .wide .result) (c .before .before .before .before .before .wide2 .result)
-ready c = place-ready (c .before .before .before .before .before .before .before .before .before .before .before .loop .store) (c .before .before .before .before .before .before .before .before .before .before .before .loop .inv .1) _ _ (c .before .before .before .before .before .before .wide .result) (c .before .before .before .before .before .wide2 .result) (c .before .before .before .before .before .before .wide .ensures) (c .before .before .before .before .before .wide2 .ensures) (sym (c .before .before .judge-heights .ensures) ∙ ap judgedNumber (c .enum-told .given .1))
+ready c = place-ready (c .before .before .before .before .before .before .before .before .before .before .before .loop .store) (c .before .before .before .before .before .before .before .before .before .before .before .loop .inv .1) _ _ (c .before .before .before .before .before .before .wide .result) (c .before .before .before .before .before .wide2 .result) (c .before .before .before .before .before .before .wide .ensures) (c .before .before .before .before .before .wide2 .ensures) (sym (c .before .before .judge-heights .ensures .has) ∙ ap judgedNumber (c .enum-told .given .1))
 
 allowed : (c : tie.After-enum-told Inv-loop μ-loop) → Allowed (c .before .before .before .before .before .before .before .before .before .before .before .loop .store) (c .before .before .before .before .before .before .wide .result) (c .before .before .before .before .before .wide2 .result)
-allowed c = place-allowed (c .before .before .before .before .before .before .before .before .before .before .before .loop .store) (c .before .before .before .before .before .before .before .before .before .before .before .loop .inv .1) _ _ (c .before .before .before .before .before .before .wide .result) (c .before .before .before .before .before .wide2 .result) (c .before .before .before .before .before .before .wide .ensures) (c .before .before .before .before .before .wide2 .ensures) (sym (c .before .before .judge-heights .ensures) ∙ ap judgedNumber (c .enum-told .given .1))
+allowed c = place-allowed (c .before .before .before .before .before .before .before .before .before .before .before .loop .store) (c .before .before .before .before .before .before .before .before .before .before .before .loop .inv .1) _ _ (c .before .before .before .before .before .before .wide .result) (c .before .before .before .before .before .wide2 .result) (c .before .before .before .before .before .before .wide .ensures) (c .before .before .before .before .before .wide2 .ensures) (sym (c .before .before .judge-heights .ensures .has) ∙ ap judgedNumber (c .enum-told .given .1))
 
 loop-holds : tie.Need-loop-holds Inv-loop μ-loop
 loop-holds c = (search needs, c .before .pre, goes-start (c .before .args .s) (c .before .args .list .now))
@@ -60,7 +60,7 @@ returns : tie.Need-returns Inv-loop μ-loop
 returns c =
     let g = c .before .r .given in
     goes-stopped (c .before .before .before .before .before .before .before .before .before .before .before .before .before .before .args .s) (c .before .before .before .before .before .before .before .before .before .before .before .before .loop .store) (c .before .before .before .before .before .before .before .before .before .before .before .before .before .before .args .list .now) (c .before .before .before .before .before .before .before .before .before .before .before .before .loop .count) (c .before .before .before .before .before .before .before .before .before .before .before .before .loop .inv .2) (g .0 .0) (omega arith)
-    (sym (ap judgedNumber (g .1)) ∙ c .before .before .before .judge-heights .ensures ∙ same-lift (c .before .before .before .before .before .before .before .before .before .before .before .before .loop .store) _ _ _ _ _ (c .before .before .before .before .before .before .before .before .before .left-of .ensures) (c .before .before .before .before .before .before .before .before .entered-of .ensures) (c .before .before .before .before .before .before .before .wide .ensures) (c .before .before .before .before .before .before .wide2 .ensures))
+    (sym (ap judgedNumber (g .1)) ∙ c .before .before .before .judge-heights .ensures .has ∙ same-lift (c .before .before .before .before .before .before .before .before .before .before .before .before .loop .store) _ _ _ _ _ (c .before .before .before .before .before .before .before .before .before .left-of .ensures) (c .before .before .before .before .before .before .before .before .entered-of .ensures) (c .before .before .before .before .before .before .before .wide .ensures) (c .before .before .before .before .before .before .wide2 .ensures))
 
 enum-told : tie.Need-enum-told Inv-loop μ-loop
 enum-told c = search needs

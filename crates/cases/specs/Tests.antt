@@ -1,0 +1,31 @@
+-- Each claim as a test that is computed: by the definitions themselves, by replaying the list, and for a goal that can't be reached by the rule.
+use mathlib.Core.Bool.{Bool, true, not, _&&_}
+use mathlib.Core.List.{List, [], _∷_}
+use Prim.Native.Nat.{ℕ}
+use lib.Dec.{eqb}
+use Rattle.store.specs.declared.Store.{Store}
+use Rattle.store.specs.Slots.{listSpace}
+use Rattle.store.specs.Lifts.{liftNumber}
+use Rattle.store.specs.Lists.{replayFrom}
+use Rattle.reach.specs.Pairs.{pairFault}
+use Rattle.reach.specs.Tests.{sameList, sameStore, ruleTest}
+use Rattle.image.specs.Image.{imageOf}
+use Rattle.image.specs.Reading.{Reading, refused, readImage}
+use Rattle.cases.specs.Claims.{Claim, liftGets, yesBy, unreachable, spaceIs, readingGets, imageIs}
+
+abbrev pub sameReading : Reading → Reading → Bool
+sameReading o q = eqb (o .number) (q .number) && sameStore (o .store) (q .store)
+
+unfoldable pub tested : Claim → Bool
+tested (liftGets s a b k) = eqb (liftNumber s a b) k
+tested (yesBy s bs t) = eqb (pairFault s t) 0 && (eqb (replayFrom s bs .number) 0 && sameStore (replayFrom s bs .reached) t)
+tested (unreachable s t) = eqb (pairFault s t) 0 && not (ruleTest s t)
+tested (spaceIs s k) = eqb (listSpace s) k
+tested (readingGets bytes k) = sameReading (readImage bytes) (refused k)
+tested (imageIs bytes s) = sameReading (readImage bytes) (record { store = s; number = 0 }) && sameList (imageOf s) bytes
+
+-- every claim of a list passes its test
+unfoldable pub allTested : List Claim → Bool
+unfolding tested
+allTested [] = true
+allTested (c ∷ cs) = tested c && allTested cs

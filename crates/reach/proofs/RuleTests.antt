@@ -1,0 +1,88 @@
+-- The tests say whether lists and stores are equal and whether the rule holds; so for comparable stores "reachable" is decided.
+use borrow.Author.Tests.{eqb-true, eq-eqb}
+use mathlib.Core.Bool.{Bool, true, false, _&&_}
+use mathlib.Core.List.{List, [], _∷_}
+use mathlib.Core.Logic.{_⊎_}
+use mathlib.Core.Path.{_≡_, refl, ap, subst}
+use Prim.Native.Nat.{ℕ, zero, suc, _<_}
+use native.Mathlib.Omega.{arith}
+use lib.Dec.{eqb}
+use Rattle.store.specs.declared.Store.{Store}
+use Rattle.store.specs.Slots.{upward}
+use Rattle.store.specs.Accept.{allBelow}
+use Rattle.store.specs.Lists.{Reachable}
+use Rattle.store.proofs.Faulted.{both-true, all-true, all-of}
+use Rattle.reach.specs.Deciding.{Decides}
+use Rattle.reach.specs.Pairs.{Comparable}
+use Rattle.reach.specs.Rules.{twoShaftReading, floor, RuleFor, Rule}
+use Rattle.reach.specs.Tests.{sameList, sameStore, sameFloor, ruleTestFor, ruleTest}
+use Rattle.reach.proofs.Deciding.{decides-as, decides-by, decided}
+use Rattle.reach.proofs.Reachability.{reachable-rule, rule-reaches}
+
+same-list : (l r : List ℕ) → sameList l r ≡ true → l ≡ r
+unfolding sameList
+same-list [] [] e = refl
+same-list [] (y ∷ r) e = absurd (let z : _≡_ {A = ℕ} 0 1 = cc in omega arith)
+same-list (x ∷ l) [] e = absurd (let z : _≡_ {A = ℕ} 0 1 = cc in omega arith)
+same-list (x ∷ l) (y ∷ r) e =
+    let p = both-true (eqb x y) (sameList l r) e in
+    let q = eqb-true x y (p .0) in
+    let u = same-list l r (p .1) in
+    λ i. q i ∷ u i
+
+list-same : (l : List ℕ) → sameList l l ≡ true
+unfolding sameList
+list-same [] = refl
+list-same (x ∷ l) = simp (eq-eqb x x refl, list-same l)
+
+list-equal : (l r : List ℕ) → l ≡ r → sameList l r ≡ true
+list-equal l r e = subst (λ (k : List ℕ). sameList l k ≡ true) e (list-same l)
+
+pub list-test : (l r : List ℕ) → Decides (sameList l r) (l ≡ r)
+list-test l r = decides-by (sameList l r) (same-list l r) (list-equal l r)
+
+same-store : (s t : Store) → sameStore s t ≡ true → s ≡ t
+unfolding sameStore
+same-store s t e =
+    let p = both-true (eqb (s .m) (t .m) && eqb (s .h) (t .h)) _ e in
+    let f = both-true (eqb (s .m) (t .m)) _ (p .0) in
+    let g = both-true (sameList (s .heights) (t .heights)) _ (p .1) in
+    let a = eqb-true (s .m) (t .m) (f .0) in
+    let b = eqb-true (s .h) (t .h) (f .1) in
+    let c = same-list (s .heights) (t .heights) (g .0) in
+    let d = same-list (s .slots) (t .slots) (g .1) in
+    λ i. record { m = a i; h = b i; heights = c i; slots = d i }
+
+store-same : (s : Store) → sameStore s s ≡ true
+unfolding sameStore
+store-same s = simp (eq-eqb (s .m) (s .m) refl, eq-eqb (s .h) (s .h) refl, list-same (s .heights), list-same (s .slots))
+
+pub store-test : (s t : Store) → Decides (sameStore s t) (s ≡ t)
+store-test s t = decides-by (sameStore s t) (same-store s t) (λ e. subst (λ (u : Store). sameStore s u ≡ true) e (store-same s))
+
+module _ (s t : Store) where
+  floor-test : (x : ℕ) → Decides (sameFloor s t x) (upward s x (floor s x) ≡ upward t x (floor s x))
+  unfolding sameFloor
+  floor-test x = list-test (upward s x (floor s x)) (upward t x (floor s x))
+
+  rule-for : (m : ℕ) → Decides (ruleTestFor m s t) (RuleFor m s t)
+  unfolding sameFloor
+  rule-for zero = store-test s t
+  rule-for (suc zero) = store-test s t
+  rule-for (suc (suc zero)) = list-test (twoShaftReading s) (twoShaftReading t)
+  rule-for (suc (suc (suc k))) =
+      decides-by (allBelow (s .m) (sameFloor s t)) (λ e x h. floor-test x .so (all-true (s .m) (sameFloor s t) e x h))
+      (λ r. all-of (s .m) (sameFloor s t) (λ x h. list-equal (upward s x (floor s x)) (upward t x (floor s x)) (r x h)))
+
+  pub rule-test : Decides (ruleTest s t) (Rule s t)
+  unfolding ruleTest
+  rule-test = rule-for (s .m)
+
+  -- for comparable stores the same test says whether the goal can be reached
+  module _ (p : Comparable s t) where
+    pub reachable-test : Decides (ruleTest s t) (Reachable s t)
+    reachable-test =
+        decides-as (λ r. let l = rule-reaches s t p r in record { lifts = l .lifts; leads = l .leads }) (reachable-rule s t p) rule-test
+
+    pub reachable-decided : Reachable s t ⊎ (Reachable s t → ⊥)
+    reachable-decided = decided (ruleTest s t) reachable-test

@@ -1,0 +1,35 @@
+-- Equality of lists and of stores, and the rules of document 01, "Which goals can be reached", each as a test that can be computed.
+use mathlib.Core.Bool.{Bool, true, false, _&&_}
+use mathlib.Core.List.{List, [], _∷_}
+use Prim.Native.Nat.{ℕ, zero, suc}
+use lib.Dec.{eqb}
+use Rattle.store.specs.declared.Store.{Store}
+use Rattle.store.specs.Slots.{upward}
+use Rattle.store.specs.Accept.{allBelow}
+use Rattle.reach.specs.Rules.{twoShaftReading, floor}
+
+unfoldable pub sameList : List ℕ → List ℕ → Bool
+sameList [] [] = true
+sameList [] (y ∷ r) = false
+sameList (x ∷ l) [] = false
+sameList (x ∷ l) (y ∷ r) = eqb x y && sameList l r
+
+unfoldable pub sameStore : Store → Store → Bool
+unfolding sameList
+sameStore s t = (eqb (s .m) (t .m) && eqb (s .h) (t .h)) && (sameList (s .heights) (t .heights) && sameList (s .slots) (t .slots))
+
+-- shaft x has the same rows that never change
+unfoldable pub sameFloor : Store → Store → ℕ → Bool
+unfolding sameList
+sameFloor s t x = sameList (upward s x (floor s x)) (upward t x (floor s x))
+
+abbrev pub ruleTestFor : ℕ → Store → Store → Bool
+ruleTestFor zero s t = sameStore s t
+ruleTestFor (suc zero) s t = sameStore s t
+ruleTestFor (suc (suc zero)) s t = sameList (twoShaftReading s) (twoShaftReading t)
+ruleTestFor (suc (suc (suc k))) s t = allBelow (s .m) (sameFloor s t)
+
+-- whether the rule for this many shafts holds
+unfoldable pub ruleTest : Store → Store → Bool
+unfolding sameStore sameFloor
+ruleTest s t = ruleTestFor (s .m) s t

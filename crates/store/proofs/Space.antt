@@ -1,0 +1,16 @@
+-- How much list space an accepted store needs at most: "The list space needed is 4hn + 8n bytes, at most 18,360." (document 01, "Which goals can be
+-- reached").
+use Prim.Native.Nat.{_*_, _≤_}
+use native.Mathlib.Nat.{mul-le-mul}
+use native.Mathlib.Omega.{arith}
+use Rattle.store.specs.declared.Store.{Store}
+use Rattle.store.specs.Accept.{Accepted}
+use Rattle.store.specs.Slots.{cassetteCount, listSpace}
+use Rattle.store.proofs.Acceptance.{accepted-sound}
+
+pub list-space-most : (s : Store) → Accepted s → listSpace s ≤ 18360
+unfolding listSpace
+list-space-most s e =
+    let p = accepted-sound s e in
+    let h : 4 * s .h ≤ 64 = omega (arith, p .shaped .rows) in
+    omega (arith, mul-le-mul h (p .few), p .few)
