@@ -16,8 +16,10 @@
  * bits, the shaft entered in the low four.
  *
  * ANSWERS. Each call returns count * 256 + number. halyard_number() and
- * halyard_count() take the two apart. The number is HALYARD_OK, or says why
- * the call was refused or where a replay stopped. If several reasons apply,
+ * halyard_count() take the two apart. The count has 56 bits: of a greater one
+ * the low 56 bits are given, which only a replay of 2^56 lifts or more could
+ * meet. The number is HALYARD_OK, or says why the call was refused or where a
+ * replay stopped. If several reasons apply,
  * the first one met is given:
  *   - an image is read field by field, the start before the goal, and a fault
  *     of reading comes before any other;
@@ -78,11 +80,13 @@ enum {
     HALYARD_UNREACHABLE = 15  /* the goal is not reachable */
 };
 
-/* The longest image, in bytes. */
+/* The longest image, in bytes. (Proved: longest, in
+ * crates/image/proofs/Lengths.antt.) */
 #define HALYARD_IMAGE_MAX 267
 
 /* The list space that halyard_plan() asks for, in bytes, for shafts of depth h
- * and n cassettes, and the most that it ever asks for. */
+ * and n cassettes, and the most that it ever asks for. (Proved:
+ * list-space-most, in crates/store/proofs/Space.antt.) */
 #define HALYARD_LIST_SPACE(h, n) \
     (4 * (size_t)(h) * (size_t)(n) + 8 * (size_t)(n))
 #define HALYARD_LIST_MAX 18360

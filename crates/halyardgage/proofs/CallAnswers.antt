@@ -1,6 +1,6 @@
 -- The answers of the calls on two images: a fault of the start's image, of the goal's, and where both are read, the answer on their stores.
 use mathlib.Core.List.{List}
-use mathlib.Core.Path.{_≡_, refl, sym, ap, _∙_, subst₂}
+use mathlib.Core.Path.{_≡_, sym, ap, _∙_, subst₂}
 use Prim.Native.Nat.{ℕ}
 use Rattle.store.specs.declared.Store.{Store}
 use Rattle.store.specs.Accept.{first}
@@ -12,7 +12,7 @@ use Rattle.planner.specs.declared.Planned.{Planned}
 use Rattle.planner.specs.Numbers.{planNumber}
 use Rattle.planner.specs.Promises.{PlanIs}
 use Rattle.image.specs.Reading.{Reading, readImage}
-use Rattle.halyardgage.specs.Calls.{answerOf, readFault, readFaults, ReachGives, ReachCallIs, PlanGives, PlanCallIs}
+use Rattle.halyardgage.specs.Calls.{answerOf, Refuses, readFault, readFaults, ReachGives, ReachCallIs, PlanGives, PlanCallIs}
 use Rattle.halyardgage.proofs.Readings.{Stands}
 
 -- The images are refused with the number k.
@@ -31,8 +31,8 @@ module _ {a b : List ℕ} {k : ℕ} (p : Refused a b k) where
   pub reach-refused : ReachCallIs a b k
   reach-refused = record { unread = λ _. sym (p .is); answered = λ z. absurd (p .one (sym (p .is) ∙ z)) }
 
-  pub plan-refused : {came : List ℕ} → PlanCallIs a b came k came
-  plan-refused = record { unread = λ _. (sym (p .is), refl); answered = λ z. absurd (p .one (sym (p .is) ∙ z)) }
+  pub plan-refused : {came out : List ℕ} {r : ℕ} → Refuses k came out r → PlanCallIs a b came r out
+  plan-refused q = record { unread = λ _. (q .number ∙ sym (p .is), q .bytes); answered = λ z. absurd (p .one (sym (p .is) ∙ z)) }
 
 -- both images are read
 module _ {a b : List ℕ} {s t : Store} (e : Stands a s) (f : Stands b t) where

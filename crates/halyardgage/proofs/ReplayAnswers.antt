@@ -1,7 +1,7 @@
 -- The answers of a replay on an image: a fault of the image, 10, and the store reached, written in as many bytes as the image has.
 use borrow.Author.Tests.{lt-ltb, le-ltb}
 use mathlib.Core.List.{List, _++_}
-use mathlib.Core.Path.{_≡_, refl, sym, ap, ap₂, _∙_, subst}
+use mathlib.Core.Path.{_≡_, sym, ap, ap₂, _∙_, subst}
 use Prim.Native.Nat.{ℕ, _+_, _≤_, _<_}
 use native.Mathlib.Omega.{arith}
 use lib.Dec.{ltb}
@@ -22,7 +22,7 @@ use Rattle.image.specs.Writing.{bytesAfter, WriteIs}
 use Rattle.image.proofs.Carried.{length-bytes}
 use Rattle.image.proofs.Outputs.{not-refused}
 use Rattle.image.proofs.RoundTrip.{read-written}
-use Rattle.halyardgage.specs.Calls.{answerOf, storeIn, readFault, replayCallFault, ReplayCallIs}
+use Rattle.halyardgage.specs.Calls.{answerOf, Refuses, storeIn, readFault, replayCallFault, ReplayCallIs}
 use Rattle.halyardgage.proofs.Kept.{leads-length, leads-accepted, replay-reaches}
 use Rattle.halyardgage.proofs.Readings.{Stands}
 
@@ -48,17 +48,17 @@ fault-left came e = ap (λ (o : Reading). first (o .number) (given (ltb (length 
 
 module _ {a list came : List ℕ} where
   -- a call that wrote nothing
-  refused-as : (k : ℕ) → replayCallFault a came ≡ k → (k ≡ 0 → ⊥) → ReplayCallIs a list came k came
-  refused-as k f n = record { refused = λ _. (sym f, refl); replayed = λ z. absurd (n (sym f ∙ z)) }
+  refused-as : {k r : ℕ} {out : List ℕ} → Refuses k came out r → replayCallFault a came ≡ k → (k ≡ 0 → ⊥) → ReplayCallIs a list came r out
+  refused-as q f n = record { refused = λ _. (q .number ∙ sym f, q .bytes); replayed = λ z. absurd (n (sym f ∙ z)) }
 
-  pub replay-refused : {k : ℕ} → k ≡ readFault a → (k ≡ 0 → ⊥) → ReplayCallIs a list came k came
-  replay-refused {k} e n =
-      refused-as k (first-stays (readFault a) (given (ltb (length came) (imageLength (storeIn a))) 10) (λ z. n (e ∙ z)) ∙ sym e) n
+  pub replay-refused : {k r : ℕ} {out : List ℕ} → Refuses k came out r → k ≡ readFault a → (k ≡ 0 → ⊥) → ReplayCallIs a list came r out
+  replay-refused q e n =
+      refused-as q (first-stays (readFault a) (given (ltb (length came) (imageLength (storeIn a))) 10) (λ z. n (e ∙ z)) ∙ sym e) n
 
   module _ (small : (i : ℕ) → getD a i 0 < 256) {s : Store} (e : Stands a s) where
-    pub replay-little-space : length came < length a → ReplayCallIs a list came 10 came
-    replay-little-space h =
-        refused-as 10
+    pub replay-little-space : {r : ℕ} {out : List ℕ} → Refuses 10 came out r → length came < length a → ReplayCallIs a list came r out
+    replay-little-space q h =
+        refused-as q
         (fault-left came e ∙ ap (λ b. given b 10) (lt-ltb (length came) (imageLength s) (omega (arith, length-read small e))))
         (λ z. omega arith)
 

@@ -22,6 +22,11 @@ use Rattle.image.specs.Reading.{readImage}
 abbrev pub answerOf : ℕ → ℕ → ℕ
 answerOf count number = count % 2 ^ 56 * 256 + number
 
+-- A refused call gives its number k, and leaves the lent bytes as they came.
+pub record Refuses (k : ℕ) (came out : List ℕ) (r : ℕ) : Type 0 where
+  pub number : r ≡ k
+  pub bytes : out ≡ came
+
 -- the store that an image stands for, and the number that refuses the image, 0 for none
 abbrev pub storeIn : List ℕ → Store
 storeIn bytes = readImage bytes .store

@@ -9,13 +9,20 @@ use rules::number::reach_number;
 use rules::reachable;
 use store::number::end_number;
 ghost use mathlib.Core.Path.{_≡_};
-ghost use Rattle.halyardgage.specs.Calls.{answerOf, readFault, ReachCallIs, PlanCallIs, ReplayCallIs};
+ghost use Rattle.halyardgage.specs.Calls.{answerOf, Refuses, readFault, ReachCallIs, PlanCallIs, ReplayCallIs};
 
 // The two parts of an answer put together.
 fn answer(count: usize, number: u8) -> u64
     ensures { λ r. ⌜ r ≡ answerOf count number ⌝ }
 {
     (count as u64) % 72057594037927936 * 256 + (number as u64)
+}
+
+// A refused call on lent bytes: the number alone, and the bytes as they came.
+fn refused(number: u8, out: &mut [u8]) -> u64
+    ensures { λ r. ⌜ Refuses number (now (out .entry)) (now (out .exit)) r ⌝ }
+{
+    number as u64
 }
 
 // Whether an image is accepted.
@@ -59,13 +66,13 @@ pub extern "C" fn halyard_plan(start: &[u8], goal: &[u8], list: &mut [u8]) -> u6
     let first = one.answer;
     let number = read_number(first);
     if number != 0 {
-        return number as u64;
+        return refused(number, list);
     }
     let two = read(goal);
     let second = two.answer;
     let other = read_number(second);
     if other != 0 {
-        return other as u64;
+        return refused(other, list);
     }
     let s = one.store;
     let t = two.store;
@@ -83,10 +90,10 @@ pub extern "C" fn halyard_replay(image: &[u8], list: &[u8], out: &mut [u8]) -> u
     let first = one.answer;
     let number = read_number(first);
     if number != 0 {
-        return number as u64;
+        return refused(number, out);
     }
     if out.len() < image.len() {
-        return 10;
+        return refused(10, out);
     }
     let s = one.store;
     let replayed = s.replay(list);

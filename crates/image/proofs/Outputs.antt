@@ -21,10 +21,11 @@ use Rattle.store.specs.Numbers.{faultNumber}
 use Rattle.store.proofs.Checks.{fault-one}
 use Rattle.store.proofs.Faulted.{first-stays}
 use Rattle.image.specs.declared.WriteAnswer.{WriteAnswer}
-use Rattle.image.specs.declared.WriteAnswer.the-variants.{Whole, StoreRefused, NoRoom}
+use Rattle.image.specs.declared.WriteAnswer.the-variants.{Whole}
+use Rattle.image.specs.declared.Written.{Written}
 use Rattle.image.specs.Image.{headBits, shaftBits, shaftsBits, imageBits, imageLength, imageOf}
 use Rattle.image.specs.Numbers.{writeNumber}
-use Rattle.image.specs.Writing.{writeRefusal, bytesAfter, countAfter, WriteIs}
+use Rattle.image.specs.Writing.{writeRefusal, bytesAfter, countAfter, Refuses, WriteIs}
 use Rattle.image.proofs.Answered.{only-write}
 
 pub no-rows : (s : Store) (x : ℕ) (out : List ℕ) (p : Pen) → p .full < 8 → Pushes (packed 8 (upward s x 0)) out out p p
@@ -62,22 +63,23 @@ none-written : (k : ℕ) (s : Store) (out : List ℕ) → (k ≡ 0 → ⊥) → 
 none-written zero s out n = absurd (n refl)
 none-written (suc k) s out n = refl
 
-pub refused-write : (s : Store) (out : List ℕ) (a : WriteAnswer) (k : ℕ) → writeRefusal s (length out) ≡ k → (k ≡ 0 → ⊥) → writeNumber a ≡ k
-    → WriteIs s out out (record { count = 0; answer = a })
-refused-write s out a k e n f = record {
-  answer = only-write (f ∙ sym e);
-  count = none-counted k s n ∙ ap (λ (j : ℕ). countAfter j s) (sym e);
-  bytes = none-written k s out n ∙ ap (λ (j : ℕ). bytesAfter j s out) (sym e);
-}
+-- a refusal with the number that is due
+pub refused-write : (s : Store) {out next : List ℕ} {r : Written} (a : WriteAnswer) → Refuses a out next r → writeRefusal s (length out) ≡ writeNumber a
+    → (writeNumber a ≡ 0 → ⊥) → WriteIs s out next r
+refused-write s {out} {next} {r} a p e n =
+    rw (p .is) (record {
+      answer = only-write (sym e);
+      count = none-counted (writeNumber a) s n ∙ ap (λ (j : ℕ). countAfter j s) (sym e);
+      bytes = p .bytes ∙ none-written (writeNumber a) s out n ∙ ap (λ (j : ℕ). bytesAfter j s out) (sym e);
+    })
 
-pub store-refused : (s : Store) (out : List ℕ) (f : Fault) → storeFault s ≡ faultNumber f → WriteIs s out out (record { count = 0; answer = StoreRefused f })
+pub store-refused : (s : Store) (out : List ℕ) (f : Fault) → storeFault s ≡ faultNumber f → writeRefusal s (length out) ≡ faultNumber f
 unfolding writeRefusal
-store-refused s out f e =
-    refused-write s out (StoreRefused f) (faultNumber f) (first-stays (storeFault s) _ (λ z. fault-one f (sym e ∙ z)) ∙ e) (fault-one f) refl
+store-refused s out f e = first-stays (storeFault s) _ (λ z. fault-one f (sym e ∙ z)) ∙ e
 
-pub no-room : (s : Store) (out : List ℕ) → Accepted s → length out < imageLength s → WriteIs s out out (record { count = 0; answer = NoRoom })
+pub no-room : (s : Store) (out : List ℕ) → Accepted s → length out < imageLength s → writeRefusal s (length out) ≡ 10
 unfolding writeRefusal
-no-room s out e h = refused-write s out NoRoom 10 (simp (e, lt-ltb (length out) (imageLength s) h)) (λ z. omega arith) refl
+no-room s out e h = simp (e, lt-ltb (length out) (imageLength s) h)
 
 -- a store that is not refused, in a space that holds its image
 module _ (s : Store) (out : List ℕ) (e : Accepted s) (room : imageLength s ≤ length out) where

@@ -7,6 +7,7 @@ use lib.ListN.{length, drop}
 use Rattle.store.specs.declared.Store.{Store}
 use Rattle.store.specs.Accept.{given, first, storeFault}
 use Rattle.store.specs.Numbers.{Only}
+use Rattle.image.specs.declared.WriteAnswer.{WriteAnswer}
 use Rattle.image.specs.declared.Written.{Written}
 use Rattle.image.specs.Image.{imageLength, imageOf}
 use Rattle.image.specs.Numbers.{writeNumber}
@@ -24,6 +25,11 @@ bytesAfter (suc k) s out = out
 abbrev pub countAfter : ℕ → Store → ℕ
 countAfter zero s = imageLength s
 countAfter (suc k) s = 0
+
+-- A refusal gives its answer, counts no byte, and leaves the lent bytes as they came.
+pub record Refuses (a : WriteAnswer) (came out : List ℕ) (r : Written) : Type 0 where
+  pub is : r ≡ record { count = 0; answer = a }
+  pub bytes : out ≡ came
 
 -- Writing a store into `out` gave the answer with its number and the count, and left the bytes `next`.
 pub record WriteIs (s : Store) (out next : List ℕ) (r : Written) : Type 0 where

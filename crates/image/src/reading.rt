@@ -32,6 +32,13 @@ fn stopped(w: Work, fault: u8) -> Work
     r
 }
 
+// "2 for a missing field"
+fn missing(w: Work) -> Work
+    ensures { λ r. ⌜ r ≡ record { store = w .store; marks = w .marks; at = w .at; fault = 2 } ⌝ }
+{
+    stopped(w, 2)
+}
+
 fn advanced(w: Work, bits: usize) -> Work
     requires { ⌜ (w .at ≤ 9000) × (bits ≤ 16) ⌝ }
     ensures { λ r. ⌜ r ≡ record { store = w .store; marks = w .marks; at = w .at + bits; fault = w .fault } ⌝ }
@@ -71,7 +78,7 @@ fn read_row(image: &[u8], w: Work, x: usize, k: usize) -> Work
         return w;
     }
     match read_field(image, w.at, 8) {
-        Field::Missing => stopped(w, 2),
+        Field::Missing => missing(w),
         Field::Value(v) => take_cassette(image, advanced(w, 8), x, k, (v % 256) as u8),
     }
 }
@@ -119,7 +126,7 @@ fn read_shaft(image: &[u8], w: Work, x: usize) -> Work
         return w;
     }
     match read_field(image, w.at, 5) {
-        Field::Missing => stopped(w, 2),
+        Field::Missing => missing(w),
         Field::Value(v) => read_column(image, advanced(w, 5), x, (v % 256) as u8),
     }
 }

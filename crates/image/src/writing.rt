@@ -16,7 +16,7 @@ ghost use Rattle.bits.specs.Pens.{noBits, Pushes};
 ghost use Rattle.store.specs.Slots.{height, upward};
 ghost use Rattle.store.specs.Sound.{Shaped};
 ghost use Rattle.image.specs.Image.{headBits, shaftBits, shaftsBits};
-ghost use Rattle.image.specs.Writing.{WriteIs};
+ghost use Rattle.image.specs.Writing.{Refuses, WriteIs};
 
 // How many bits the shafts below m take.
 fn count_bits(s: Store) -> usize
@@ -83,6 +83,13 @@ fn write_shafts(s: Store, out: &mut [u8], p: Pen) -> Pen
     q
 }
 
+// A refusal: no byte counted, and the lent bytes as they came.
+fn refused(answer: WriteAnswer, out: &mut [u8]) -> Written
+    ensures { λ r. ⌜ Refuses answer (now (out .entry)) (now (out .exit)) r ⌝ }
+{
+    Written { count: 0, answer }
+}
+
 // The image of a store, in the first of the lent bytes.
 pub fn write(s: Store, out: &mut [u8]) -> Written
     ensures { λ r. ⌜ WriteIs s (now (out .entry)) (now (out .exit)) r ⌝ }
@@ -90,17 +97,11 @@ pub fn write(s: Store, out: &mut [u8]) -> Written
     let checked = s.check();
     let verdict = checked.verdict;
     if let Verdict::Refused(f) = verdict {
-        return Written {
-            count: 0,
-            answer: WriteAnswer::StoreRefused(f),
-        };
+        return refused(WriteAnswer::StoreRefused(f), out);
     }
     let bits = 12 + count_bits(s);
     if out.len() < (bits + 7) / 8 {
-        return Written {
-            count: 0,
-            answer: WriteAnswer::NoRoom,
-        };
+        return refused(WriteAnswer::NoRoom, out);
     }
     let head = write_head(s, out);
     let all = write_shafts(s, out, head);

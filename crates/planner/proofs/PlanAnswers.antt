@@ -14,7 +14,7 @@ use Rattle.moves.specs.Written.{Steps}
 use Rattle.moves.proofs.Stepping.{steps-none}
 use Rattle.planner.specs.declared.PlanAnswer.{PlanAnswer}
 use Rattle.planner.specs.declared.Planned.{Planned}
-use Rattle.planner.specs.Promises.{PlanSays, PlanLeaves, Untouched, MadeIs, PlanIs}
+use Rattle.planner.specs.Promises.{PlanSays, PlanLeaves, Untouched, Refuses, MadeIs, PlanIs}
 
 -- stores that can be compared have few rows and few cassettes
 pub counted-few : (s t : Store) → Comparable s t → (s .h ≤ 16) × (cassetteCount s ≤ 255)
@@ -25,13 +25,11 @@ pub space-counted : (s : Store) (h n k : ℕ) → h ≡ s .h → n ≡ cassetteC
 unfolding listSpace
 space-counted s h n k e f g = g ∙ rw (e, f)
 
-pub untouched : {came : List ℕ} → Untouched came came 0
-untouched = record { count = refl; bytes = refl }
-
 module _ (s t : Store) (came : List ℕ) where
-  -- a refusal counts no lift and writes nothing
-  pub refused-as : (a : PlanAnswer) (r : Planned) → r ≡ record { answer = a; count = 0 } → PlanSays s t came a → PlanLeaves s t came came 0 a → PlanIs s t came came r
-  refused-as a r e p q = rw e (record { answer = p; left = q })
+  -- a refusal that is right is the answer
+  pub refused-as : (a : PlanAnswer) {out : List ℕ} {r : Planned} → Refuses a came out r → PlanSays s t came a → (Untouched came out 0 → PlanLeaves s t came out 0 a)
+      → PlanIs s t came out r
+  refused-as a e p q = rw (e .is) (record { answer = p; left = q (record { count = refl; bytes = e .bytes }) })
 
   pub not-by-rule : Comparable s t → listSpace s ≤ length came → (Rule s t → ⊥) → PlanSays s t came PlanAnswer.Unreachable
   not-by-rule p h n = (p, (h, λ l. n (reachable-rule s t p l)))

@@ -46,6 +46,11 @@ pub record PlanIs (s t : Store) (came out : List ℕ) (r : Planned) : Type 0 whe
   pub answer : PlanSays s t came (r .answer)
   pub left : PlanLeaves s t came out (r .count) (r .answer)
 
+-- A refusal gives its answer, counts no lift, and leaves the lent bytes as they came.
+pub record Refuses (a : PlanAnswer) (came out : List ℕ) (r : Planned) : Type 0 where
+  pub is : r ≡ record { answer = a; count = 0 }
+  pub bytes : out ≡ came
+
 -- A list was made: it leads from start to goal within the list space, stands in the first bytes, and its length is the count.
 pub record MadeIs (s t : Store) (came : List ℕ) (count : ℕ) (out : List ℕ) : Type 0 where
   pub steps : Steps s 0 came t count out

@@ -13,7 +13,7 @@ use store::Store;
 use store::wide;
 ghost use mathlib.Core.Path.{_≡_};
 ghost use Prim.Native.Nat.{_+_, _*_, _≤_};
-ghost use Rattle.planner.specs.Promises.{PlanIs};
+ghost use Rattle.planner.specs.Promises.{Refuses, PlanIs};
 
 // How the list maker answers: a list, or refused with the fault of the pair, 10 or 15.
 pub enum PlanAnswer {
@@ -37,8 +37,9 @@ fn list_space(h: usize, n: usize) -> usize
     4 * h * n + 8 * n
 }
 
-fn refused(answer: PlanAnswer) -> Planned
-    ensures { λ r. ⌜ r ≡ record { answer = answer; count = 0 } ⌝ }
+// A refusal: no list, and the lent bytes as they came.
+fn refused(answer: PlanAnswer, out: &mut [u8]) -> Planned
+    ensures { λ r. ⌜ Refuses answer (now (out .entry)) (now (out .exit)) r ⌝ }
 {
     Planned { answer, count: 0 }
 }
@@ -60,16 +61,17 @@ pub fn make_list(start: Store, goal: Store, out: &mut [u8]) -> Planned
     let pair = compared.pair;
     let n = compared.n;
     if let Pair::Refused(f) = pair {
-        return refused(PlanAnswer::Refused(f));
+        return refused(PlanAnswer::Refused(f), out);
     }
     if out.len() < list_space(wide(start.h), n) {
-        return refused(PlanAnswer::LittleSpace);
+        return refused(PlanAnswer::LittleSpace, out);
     }
     if !rule_holds(start, goal, n) {
-        return refused(PlanAnswer::Unreachable);
+        return refused(PlanAnswer::Unreachable, out);
     }
     if same_store(start, goal) {
         return listed(0);
     }
-    listed(make(start, goal, n, out))
+    let count = make(start, goal, n, out);
+    listed(count)
 }

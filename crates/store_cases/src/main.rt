@@ -76,6 +76,45 @@ fn check_cases() {
     check(b"cassette 1 twice: ", s);
 }
 
+// Every slot that the value records holds 7.
+fn crowded(m: u8, h: u8) -> Store {
+    Store {
+        m,
+        h,
+        heights: [0u8; 16],
+        slots: [7u8; 256],
+    }
+}
+
+fn content(what: &[u8], s: Store, x: u8, y: u8) {
+    say(what, s.content(Shaft(x), Row(y)));
+}
+
+fn content_cases() {
+    content(
+        b"m 3, h 2, every slot 7: shaft 2 row 2: ",
+        crowded(3, 2),
+        2,
+        2,
+    );
+    content(b"shaft 2 row 3: ", crowded(3, 2), 2, 3);
+    content(b"shaft 3 row 1: ", crowded(3, 2), 3, 1);
+    content(
+        b"m 200, h 200, every slot 7: shaft 15 row 16: ",
+        crowded(200, 200),
+        15,
+        16,
+    );
+    content(b"shaft 15 row 17: ", crowded(200, 200), 15, 17);
+    content(b"shaft 16 row 1: ", crowded(200, 200), 16, 1);
+    content(
+        b"m 0, h 0, every slot 7: shaft 0 row 1: ",
+        crowded(0, 0),
+        0,
+        1,
+    );
+}
+
 fn lift(what: &[u8], s: Store, from: u8, to: u8) {
     let lifted = s.lift(Shaft(from), Shaft(to));
     let answer = lifted.answer;
@@ -106,6 +145,7 @@ fn replay(what: &[u8], s: Store, list: &[u8]) {
 
 fn main() {
     check_cases();
+    content_cases();
     lift_cases();
     replay(b"02 10 21 on [1] [2] []: ", singles(), b"\x02\x10\x21");
     replay(b"02 21 00 on [1] [2] []: ", singles(), b"\x02\x21\x00");

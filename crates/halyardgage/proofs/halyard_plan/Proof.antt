@@ -18,11 +18,17 @@ read-requires c κs = search needs
 read-number-requires : tie.Need-read-number-requires
 read-number-requires c κs = search needs
 
-cast-result : tie.Need-cast-result
-cast-result c = search needs
+refused-requires : tie.Need-refused-requires
+refused-requires c κs = search needs
+
+same-length : tie.Need-same-length
+same-length c = search needs
 
 returns : tie.Need-returns
-returns c = plan-refused (start-refused (number-read _ (c .before .before .read .ensures) (c .before .read-number .ensures)) (c .if1 .taken))
+returns c =
+    let r = c .before .before in
+    let w = r .before .before in
+    plan-refused (start-refused (number-read _ (w .before .before .read .ensures) (w .before .read-number .ensures)) (w .if1 .taken)) (r .refused .ensures)
 
 read-requires-2 : tie.Need-read-requires-2
 read-requires-2 c κs = search needs
@@ -30,13 +36,18 @@ read-requires-2 c κs = search needs
 read-number-requires-2 : tie.Need-read-number-requires-2
 read-number-requires-2 c κs = search needs
 
-cast-result-2 : tie.Need-cast-result-2
-cast-result-2 c = search needs
+refused-requires-2 : tie.Need-refused-requires-2
+refused-requires-2 c κs = search needs
+
+same-length-2 : tie.Need-same-length-2
+same-length-2 c = search needs
 
 returns-2 : tie.Need-returns-2
 returns-2 c =
-    let g = number-read _ (c .before .before .read2 .ensures) (c .before .read-number2 .ensures) in
-    plan-refused (goal-refused (start (c .before .before .before)) g (c .if2 .taken))
+    let r = c .before .before in
+    let w = r .before .before in
+    let g = number-read _ (w .before .before .read2 .ensures) (w .before .read-number2 .ensures) in
+    plan-refused (goal-refused (start (w .before .before .before)) g (w .if2 .taken)) (r .refused2 .ensures)
 
 make-list-requires : tie.Need-make-list-requires
 make-list-requires c κs = search needs
@@ -47,8 +58,8 @@ plan-number-requires c κs = search needs
 answer-requires : tie.Need-answer-requires
 answer-requires c κs = search needs
 
-same-length : tie.Need-same-length
-same-length c = search needs
+same-length-3 : tie.Need-same-length-3
+same-length-3 c = search needs
 
 returns-3 : tie.Need-returns-3
 returns-3 c =
@@ -62,14 +73,16 @@ halyard-plan-spec =
     (tie.spec
     read-requires
     read-number-requires
-    cast-result
+    refused-requires
+    same-length
     returns
     read-requires-2
     read-number-requires-2
-    cast-result-2
+    refused-requires-2
+    same-length-2
     returns-2
     make-list-requires
     plan-number-requires
     answer-requires
-    same-length
+    same-length-3
     returns-3)

@@ -22,14 +22,29 @@ read-requires c κs = search needs
 read-number-requires : tie.Need-read-number-requires
 read-number-requires c κs = search needs
 
-cast-result : tie.Need-cast-result
-cast-result c = search needs
+refused-requires : tie.Need-refused-requires
+refused-requires c κs = search needs
+
+same-length : tie.Need-same-length
+same-length c = search needs
 
 returns : tie.Need-returns
-returns c = replay-refused (number-read _ (c .before .before .read .ensures) (c .before .read-number .ensures)) (c .if1 .taken)
+returns c =
+    let r = c .before .before in
+    let w = r .before .before in
+    replay-refused (r .refused .ensures) (number-read _ (w .before .before .read .ensures) (w .before .read-number .ensures)) (w .if1 .taken)
+
+refused-requires-2 : tie.Need-refused-requires-2
+refused-requires-2 c κs = search needs
+
+same-length-2 : tie.Need-same-length-2
+same-length-2 c = search needs
 
 returns-2 : tie.Need-returns-2
-returns-2 c = replay-little-space (bytes (c .before)) (start (c .before)) (c .if2 .taken)
+returns-2 c =
+    let r = c .before .before in
+    let w = r .before .before in
+    replay-little-space (bytes (w .before)) (start (w .before)) (r .refused2 .ensures) (w .if2 .taken)
 
 replay-requires : tie.Need-replay-requires
 replay-requires c κs = search needs
@@ -43,8 +58,8 @@ end-number-requires c κs = search needs
 answer-requires : tie.Need-answer-requires
 answer-requires c κs = search needs
 
-same-length : tie.Need-same-length
-same-length c = search needs
+same-length-3 : tie.Need-same-length-3
+same-length-3 c = search needs
 
 returns-3 : tie.Need-returns-3
 returns-3 c =
@@ -59,12 +74,15 @@ halyard-replay-spec =
     (tie.spec
     read-requires
     read-number-requires
-    cast-result
+    refused-requires
+    same-length
     returns
+    refused-requires-2
+    same-length-2
     returns-2
     replay-requires
     write-requires
     end-number-requires
     answer-requires
-    same-length
+    same-length-3
     returns-3)

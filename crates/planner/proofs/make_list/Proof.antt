@@ -8,7 +8,7 @@ use lib.ListN.{length}
 use Rattle.store.specs.Slots.{cassetteCount, listSpace}
 use Rattle.reach.specs.Pairs.{Comparable}
 use Rattle.rules.proofs.Answers.{comparable-by, count-by, faulty-by}
-use Rattle.planner.proofs.PlanAnswers.{counted-few, space-counted, refused-as, untouched, not-by-rule, listed-nothing, listed-made}
+use Rattle.planner.proofs.PlanAnswers.{counted-few, space-counted, refused-as, not-by-rule, listed-nothing, listed-made}
 use Rattle.planner.proofs.make_list.Statement.{statement}
 use Rattle.planner.proofs.make_list.Tie as tie
 
@@ -38,11 +38,16 @@ enum-known-pair c = search needs
 refused-requires : tie.Need-refused-requires
 refused-requires c κs = search needs
 
+same-length : tie.Need-same-length
+same-length c = search needs
+
 returns : tie.Need-returns
 returns c =
-    let a = c .before .before .before .before .before .before .args in
-    refused-as (a .start) (a .goal) (a .out .now) _ _ (c .refused .ensures)
-    (faulty-by (a .start) (a .goal) _ _ (c .before .before .before .before .compare .ensures) (c .before .before .pair .given .1)) untouched
+    let r = c .before .before in
+    let p = r .before .before .before in
+    let a = p .before .before .before .before .args in
+    refused-as (a .start) (a .goal) (a .out .now) _ (r .refused .ensures)
+    (faulty-by (a .start) (a .goal) _ _ (p .before .before .compare .ensures) (p .pair .given .1)) (λ u. u)
 
 enum-told : tie.Need-enum-told
 enum-told c = search needs
@@ -57,12 +62,16 @@ list-space-requires c κs =
 refused-requires-2 : tie.Need-refused-requires-2
 refused-requires-2 c κs = search needs
 
+same-length-2 : tie.Need-same-length-2
+same-length-2 c = search needs
+
 returns-2 : tie.Need-returns-2
 returns-2 c =
-    let d = c .before .before .before .before in
+    let r = c .before .before in
+    let w = r .before .before in
+    let d = w .before .before .before in
     let a = entry d .args in
-    refused-as (a .start) (a .goal) (a .out .now) _ _ (c .refused2 .ensures)
-    (both d, omega (arith, space (c .before .before), c .before .if1 .taken)) untouched
+    refused-as (a .start) (a .goal) (a .out .now) _ (r .refused2 .ensures) (both d, omega (arith, space (w .before), w .if1 .taken)) (λ u. u)
 
 rule-holds-requires : tie.Need-rule-holds-requires
 rule-holds-requires c κs =
@@ -72,13 +81,18 @@ rule-holds-requires c κs =
 refused-requires-3 : tie.Need-refused-requires-3
 refused-requires-3 c κs = search needs
 
+same-length-3 : tie.Need-same-length-3
+same-length-3 c = search needs
+
 returns-3 : tie.Need-returns-3
 returns-3 c =
-    let e = c .before .before .before in
+    let r = c .before .before in
+    let w = r .before .before in
+    let e = w .before .before in
     let d = e .before .before .before in
     let a = entry d .args in
-    refused-as (a .start) (a .goal) (a .out .now) _ _ (c .refused3 .ensures)
-    (not-by-rule (a .start) (a .goal) (a .out .now) (both d) (enough e) (c .before .before .rule-holds .ensures .not-so (not-true _ (c .before .if2 .taken)))) untouched
+    refused-as (a .start) (a .goal) (a .out .now) _ (r .refused3 .ensures)
+    (not-by-rule (a .start) (a .goal) (a .out .now) (both d) (enough e) (w .before .rule-holds .ensures .not-so (not-true _ (w .if2 .taken)))) (λ u. u)
 
 same-store-requires : tie.Need-same-store-requires
 same-store-requires c κs = search needs
@@ -101,8 +115,8 @@ make-requires c κs =
 listed-requires-2 : tie.Need-listed-requires-2
 listed-requires-2 c κs = search needs
 
-same-length : tie.Need-same-length
-same-length c = search needs
+same-length-4 : tie.Need-same-length-4
+same-length-4 c = search needs
 
 returns-5 : tie.Need-returns-5
 returns-5 c =
@@ -118,19 +132,22 @@ make-list-spec =
     compare-requires
     enum-known-pair
     refused-requires
+    same-length
     returns
     enum-told
     wide-requires
     list-space-requires
     refused-requires-2
+    same-length-2
     returns-2
     rule-holds-requires
     refused-requires-3
+    same-length-3
     returns-3
     same-store-requires
     listed-requires
     returns-4
     make-requires
     listed-requires-2
-    same-length
+    same-length-4
     returns-5)

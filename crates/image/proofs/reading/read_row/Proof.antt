@@ -25,8 +25,8 @@ read-field-requires c κs = search needs
 enum-told : tie.Need-enum-told
 enum-told c = search needs
 
-stopped-requires : tie.Need-stopped-requires
-stopped-requires c κs = search needs
+missing-requires : tie.Need-missing-requires
+missing-requires c κs = search needs
 
 enum-known-v : tie.Need-enum-known-v
 enum-known-v c = search needs
@@ -43,7 +43,7 @@ take-cassette-requires c κs = search needs
 returns-2 : tie.Need-returns-2
 returns-2 c =
     let a = c .before .before .before .before .before .before .before .args in
-    rw (c .stopped .ensures)
+    rw (c .missing .ensures)
     (field-fails (a .image .now) (a .w) 8 (takeCassette (a .x) (a .k)) (c .before .before .before .before .if1 .left) 8 (sym (c .before .before .before .read-field .ensures) ∙ c .before .enum-told .given .1))
 
 returns-3 : tie.Need-returns-3
@@ -60,7 +60,7 @@ read-row-spec =
     returns
     read-field-requires
     enum-told
-    stopped-requires
+    missing-requires
     enum-known-v
     advanced-requires
     cast-take-cassette

@@ -25,8 +25,8 @@ read-field-requires c κs = search needs
 enum-told : tie.Need-enum-told
 enum-told c = search needs
 
-stopped-requires : tie.Need-stopped-requires
-stopped-requires c κs = search needs
+missing-requires : tie.Need-missing-requires
+missing-requires c κs = search needs
 
 enum-known-v : tie.Need-enum-known-v
 enum-known-v c = search needs
@@ -47,7 +47,7 @@ read-column-requires c κs =
 returns-2 : tie.Need-returns-2
 returns-2 c =
     let a = c .before .before .before .before .before .before .before .args in
-    rw (c .stopped .ensures)
+    rw (c .missing .ensures)
     (field-fails (a .image .now) (a .w) 5 (readColumn (a .x)) (c .before .before .before .before .if1 .left) 133 (sym (c .before .before .before .read-field .ensures) ∙ c .before .enum-told .given .1))
 
 returns-3 : tie.Need-returns-3
@@ -64,7 +64,7 @@ read-shaft-spec =
     returns
     read-field-requires
     enum-told
-    stopped-requires
+    missing-requires
     enum-known-v
     advanced-requires
     cast-read-column

@@ -8,9 +8,9 @@ use Rattle.store.specs.Slots.{cassettes}
 use Rattle.store.specs.Accept.{storeFault, Accepted}
 use Rattle.store.specs.Promises.{CheckIs}
 use Rattle.store.proofs.Acceptance.{accepted-sound}
-use Rattle.store.proofs.Checks.{accepted-none, refused-one}
+use Rattle.store.proofs.Checks.{fault-one, accepted-none, refused-one}
 use Rattle.image.proofs.Lengths.{length-head, image-length}
-use Rattle.image.proofs.Outputs.{store-refused, no-room, image-written}
+use Rattle.image.proofs.Outputs.{refused-write, store-refused, no-room, image-written}
 use borrow.Author.Needs.{needs}
 use Rattle.image.proofs.writing.write.Statement.{statement}
 use Rattle.image.proofs.writing.write.Tie as tie
@@ -24,8 +24,19 @@ enum-known-verdict c = search needs
 passed : (s : Store) (r : Checked) → CheckIs (storeFault s) (cassettes s) r → r .verdict ≡ Taken → Accepted s
 passed s r p e = accepted-none (storeFault s) (cassettes s) r p e .0
 
+refused-requires : tie.Need-refused-requires
+refused-requires c κs = search needs
+
+same-length : tie.Need-same-length
+same-length c = search needs
+
 returns : tie.Need-returns
-returns c = let a = c .before .before .before .before .before .args in store-refused (a .s) (a .out .now) _ (refused-one _ (storeFault (a .s)) (cassettes (a .s)) (c .before .before .before .check .result) (c .before .before .before .check .ensures) (c .before .verdict .given .1))
+returns c =
+    let r = c .before .before in
+    let v = r .before .before .before in
+    let a = v .before .before .before .before .args in
+    let f = refused-one _ (storeFault (a .s)) (cassettes (a .s)) (v .before .before .check .result) (v .before .before .check .ensures) (v .verdict .given .1) in
+    refused-write (a .s) _ (r .refused .ensures) (store-refused (a .s) (a .out .now) (v .verdict .given .0 .0) f) (fault-one (v .verdict .given .0 .0))
 
 enum-told : tie.Need-enum-told
 enum-told c = search needs
@@ -39,8 +50,21 @@ add-bits c = search needs
 add-if1 : tie.Need-add-if1
 add-if1 c = search needs
 
+refused-requires-2 : tie.Need-refused-requires-2
+refused-requires-2 c κs = search needs
+
+same-length-2 : tie.Need-same-length-2
+same-length-2 c = search needs
+
 returns-2 : tie.Need-returns-2
-returns-2 c = let a = c .before .before .before .before .before .before .args in no-room (a .s) (a .out .now) (passed (c .before .before .before .before .before .before .args .s) (c .before .before .before .before .check .result) (c .before .before .before .before .check .ensures) (c .before .before .enum-told .given .1)) (omega (arith, image-length (a .s), c .before .count-bits .ensures .0))
+returns-2 c =
+    let r = c .before .before in
+    let w = r .before .before in
+    let e = w .before .before in
+    let a = e .before .before .before .before .args in
+    let p = passed (a .s) (e .before .before .check .result) (e .before .before .check .ensures) (e .enum-told .given .1) in
+    refused-write (a .s) _ (r .refused2 .ensures) (no-room (a .s) (a .out .now) p (omega (arith, image-length (a .s), w .before .count-bits .ensures .0, w .if1 .taken)))
+    (λ z. omega arith)
 
 write-head-requires : tie.Need-write-head-requires
 write-head-requires c κs = let p = accepted-sound (c .before .before .before .before .before .before .before .args .s) (passed (c .before .before .before .before .before .before .before .args .s) (c .before .before .before .before .before .check .result) (c .before .before .before .before .before .check .ensures) (c .before .before .before .enum-told .given .1)) in (p .some-shaft, p .some-row, omega arith)
@@ -60,8 +84,8 @@ pad-requires c κs =
     let p = c .before .before .before .write-shafts .ensures in
     (p .full, omega (arith, h .count, h .same-length, p .count, p .same-length, length-head (a .s), c .before .before .before .before .before .before .before .before .before .before .count-bits .ensures .0, c .before .before .before .before .before .before .before .before .before .if1 .left))
 
-same-length : tie.Need-same-length
-same-length c = search needs
+same-length-3 : tie.Need-same-length-3
+same-length-3 c = search needs
 
 returns-3 : tie.Need-returns-3
 returns-3 c =
@@ -75,14 +99,18 @@ write-spec =
     (tie.spec
     check-requires
     enum-known-verdict
+    refused-requires
+    same-length
     returns
     enum-told
     count-bits-requires
     add-bits
     add-if1
+    refused-requires-2
+    same-length-2
     returns-2
     write-head-requires
     write-shafts-requires
     pad-requires
-    same-length
+    same-length-3
     returns-3)
