@@ -1,23 +1,22 @@
 -- Every row of the table holds: the whole table passes its tests, which is computed, and a claim that passes its test holds.
 use borrow.Author.Tests.{eqb-true, not-true}
-use mathlib.Core.Bool.{Bool, true, false, not}
+use mathlib.Core.Bool.{true}
 use mathlib.Core.List.{List, [], _∷_}
 use mathlib.Core.Path.{_≡_, refl, subst}
 use lib.Dec.{eqb}
 use Rattle.stacks.specs.Count.{count}
-use Rattle.store.specs.declared.Store.{Store}
-use Rattle.store.specs.Accept.{allBytes, allBelow, shaftInPlace, inPlace, rowsFault, shaftsFault, storeFault}
-use Rattle.store.specs.Lifts.{refusalBy, liftRefusal, placedAt, lifted, liftNumber}
+use Rattle.store.specs.Accept.{rowsFault, storeFault}
+use Rattle.store.specs.Lifts.{liftRefusal, lifted, liftNumber}
 use Rattle.store.specs.Lists.{Leads, replayFrom}
 use Rattle.store.specs.Slots.{slot, upward, downward, cassettesBelow, cassettes, cassetteCount, emptyCount, listSpace}
 use Rattle.store.proofs.Faulted.{both-true}
 use Rattle.store.proofs.Replays.{leads-replay}
-use Rattle.bits.specs.Fields.{bits, field, packed, bitsOf, bytesOf, nextField}
-use Rattle.image.specs.Image.{headBits, shaftBits, shaftsBits, imageBits, imageLength, imageOf}
-use Rattle.image.specs.Reading.{Reading, readRows, readColumn, readShafts, padding, finish, readBody, readImage}
-use Rattle.reach.specs.Pairs.{allIn, cassettesFault, pairFault}
+use Rattle.bits.specs.Fields.{bits, packed, bitsOf, bytesOf, nextField}
+use Rattle.image.specs.Image.{imageOf}
+use Rattle.image.specs.Reading.{Reading, readImage}
+use Rattle.reach.specs.Pairs.{pairFault}
 use Rattle.reach.specs.Rules.{twoShaftReading, floor}
-use Rattle.reach.specs.Tests.{sameList, sameStore, sameFloor, ruleTest}
+use Rattle.reach.specs.Tests.{ruleTest}
 use Rattle.reach.proofs.RuleTests.{list-test, store-test, reachable-test}
 use Rattle.reach.proofs.Sets.{comparable}
 use Rattle.cases.specs.Claims.{Claim, liftGets, yesBy, unreachable, spaceIs, readingGets, imageIs, Holds, AllHold}

@@ -1,9 +1,7 @@
 -- Each claim as a test that is computed: by the definitions themselves, by replaying the list, and for a goal that can't be reached by the rule.
 use mathlib.Core.Bool.{Bool, true, not, _&&_}
 use mathlib.Core.List.{List, [], _∷_}
-use Prim.Native.Nat.{ℕ}
 use lib.Dec.{eqb}
-use Rattle.store.specs.declared.Store.{Store}
 use Rattle.store.specs.Slots.{listSpace}
 use Rattle.store.specs.Lifts.{liftNumber}
 use Rattle.store.specs.Lists.{replayFrom}

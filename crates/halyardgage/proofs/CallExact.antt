@@ -3,24 +3,21 @@
 use mathlib.Core.List.{List}
 use mathlib.Core.Logic.{_⊎_, inl, inr, ⊎-elim}
 use mathlib.Core.Path.{_≡_, sym, ap, _∙_, subst}
-use Prim.Native.Nat.{ℕ, _+_, _*_, _/_, _%_, _^_, _≤_, _<_}
+use Prim.Native.Nat.{ℕ, _/_, _%_, _^_, _≤_, _<_}
 use native.Mathlib.Decide.{ℕ-discrete}
 use native.Mathlib.Nat.{mod-eq-of-lt}
 use native.Mathlib.Omega.{arith}
 use Rattle.store.specs.Lists.{Reachable}
-use Rattle.store.specs.Accept.{first}
 use Rattle.store.proofs.Space.{list-space-most}
 use Rattle.reach.specs.Pairs.{Comparable}
-use Rattle.rules.specs.declared.Reach.{Reach}
 use Rattle.rules.specs.Numbers.{reachNumber}
 use Rattle.rules.specs.Promises.{ReachSays}
 use Rattle.rules.proofs.Exact.{yes-exactly, no-exactly, zero-is-yes, fifteen-is-no}
-use Rattle.planner.specs.declared.PlanAnswer.{PlanAnswer}
 use Rattle.planner.specs.Numbers.{planNumber}
 use Rattle.planner.specs.Promises.{PlanSays, Lists}
 use Rattle.planner.proofs.PlanExact.{listed-list, zero-is-listed, fifteen-is-unreachable, number-most}
 use Rattle.image.proofs.Numbers.{number-few, first-few}
-use Rattle.halyardgage.specs.Calls.{answerOf, storeIn, readFault, readFaults, ReachGives, ReachCallIs, PlanGives, PlanCallIs}
+use Rattle.halyardgage.specs.Calls.{answerOf, storeIn, readFault, readFaults, ReachCallIs, PlanGives, PlanCallIs}
 
 -- faults of reading are 1 to 7
 faults-few : (a b : List ℕ) → readFaults a b ≤ 7

@@ -1,7 +1,7 @@
 -- The promise of the list maker is exact: no two values of its answer are right at once, a list is made exactly where one exists and 15 given exactly
 -- where none does, and the greatest list space always suffices.
 use borrow.Author.Tests.{lt-ltb, le-ltb}
-use mathlib.Core.Bool.{Bool, true, false, cond}
+use mathlib.Core.Bool.{cond}
 use mathlib.Core.List.{List}
 use mathlib.Core.Path.{_≡_, refl, sym, ap, _∙_, subst}
 use Prim.Native.Nat.{ℕ, _≤_}
@@ -9,7 +9,7 @@ use native.Mathlib.Omega.{arith}
 use lib.Dec.{ltb}
 use lib.ListN.{length}
 use Rattle.store.specs.declared.Store.{Store}
-use Rattle.store.specs.Lists.{Leads, Reachable}
+use Rattle.store.specs.Lists.{Reachable}
 use Rattle.store.specs.Slots.{listSpace}
 use Rattle.store.proofs.Space.{list-space-most}
 use Rattle.reach.specs.Pairs.{Comparable}

@@ -6,7 +6,7 @@ use native.Mathlib.Omega.{arith}
 use lib.ListN.{replicate, length-replicate}
 use Rattle.stacks.specs.Run.{Run, Within}
 use Rattle.stacks.specs.Moves.{shift}
-use Rattle.stacks.specs.Reading
+use Rattle.stacks.specs.Reading.{twoStackReading}
 use Rattle.stacks.proofs.TwoShafts.{two-shift, two-unshift}
 use Rattle.store.specs.declared.Store.{Store}
 use Rattle.store.specs.Slots.{depth, height, stack, cassetteCount, listSpace}
@@ -45,7 +45,7 @@ module _ (s t : Store) (p : Comparable s t) (few : s .m ≤ 2) where
 
   -- a shift of two shafts that runs from start to goal, and shifts none where they are the same, leads from start to goal
   shift-leads : (k a b : ℕ) → (s ≡ t → k ≡ 0)
-      → (s .m ≡ 2 → Reading.twoStackReading (stack s) ≡ Reading.twoStackReading (stack t) → Run 2 (depth s) (stack s) (shift k a b) (stack t))
+      → (s .m ≡ 2 → twoStackReading (stack s) ≡ twoStackReading (stack t) → Run 2 (depth s) (stack s) (shift k a b) (stack t))
       → Rule s t → Leads s (replicate k (liftByte a b)) t
   shift-leads k a b none run = go (s .m) refl
     where

@@ -8,7 +8,7 @@ use native.Mathlib.Omega.{arith}
 use lib.ListN.{length, drop, length-append}
 use Rattle.stacks.specs.Run.{Within}
 use Rattle.stacks.specs.Count.{sum, count, occurrences, total, empties, lowest}
-use Rattle.stacks.specs.Reading
+use Rattle.stacks.specs.Reading.{twoStackReading}
 use Rattle.stacks.proofs.Counts.{count-append}
 use Rattle.store.specs.declared.Store.{Store}
 use Rattle.store.specs.Slots.{depth, height, slot, upward, downward, stack, cassettesBelow, cassettes, cassetteCount, emptyCount}
@@ -37,8 +37,8 @@ module _ (s : Store) where
   upward-reversed x k = sym (append-nil (upward s x k)) ∙ upward-then x k []
 
   -- the reading of document 01 is the reading of the stacks
-  pub reading-agrees : twoShaftReading s ≡ Reading.twoStackReading (stack s)
-  unfolding twoShaftReading Reading.twoStackReading stack
+  pub reading-agrees : twoShaftReading s ≡ twoStackReading (stack s)
+  unfolding twoShaftReading twoStackReading stack
   reading-agrees = upward-then 0 (height s 0) (downward s 1 (height s 1))
 
   -- each number stands as often among the cassettes as in the stacks

@@ -16,14 +16,14 @@ use Rattle.rules.specs.declared.pairs.PairFault.{PairFault}
 use Rattle.rules.specs.declared.pairs.Pair.{Pair}
 use Rattle.rules.specs.declared.pairs.Compared.{Compared}
 use Rattle.rules.specs.Promises.{Faulty, PairSays, countFor, CompareIs, yesOrNo, ReachSays}
-use Rattle.rules.proofs.Faults.{Marked, store-bytes}
+use Rattle.rules.proofs.Faults.{AcceptedMarks, store-bytes}
 
 module _ (s t : Store) where
   pub refused-as : (f : PairFault) (r : Compared) → r ≡ record { pair = Pair.Refused f; n = 0 } → Faulty s t f → CompareIs s t r
   refused-as f r e p = rw e (record { pair = p; count = refl })
 
   -- the count of an accepted store's marks is the count of its cassettes
-  pub compared-as : (n : ℕ) (v : List ℕ) → Comparable s t → Marked s v → n ≡ markCount v → CompareIs s t (record { pair = Pair.Comparable; n = n })
+  pub compared-as : (n : ℕ) (v : List ℕ) → Comparable s t → AcceptedMarks s v → n ≡ markCount v → CompareIs s t (record { pair = Pair.Comparable; n = n })
   unfolding cassetteCount
   compared-as n v p m e = record {
     pair = p;

@@ -1,6 +1,5 @@
 -- The promises on two stores are exact: no two values of an answer are right at once, the right one has document 01's number, and "yes" and "no" are
 -- given exactly where they are so.
-use borrow.Author.Tests.{eq-eqb}
 use mathlib.Core.Bool.{Bool, true, false, cond}
 use mathlib.Core.Path.{_≡_, refl, sym, ap, _∙_, subst}
 use Prim.Native.Nat.{ℕ, _<_}

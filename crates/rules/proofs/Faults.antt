@@ -31,11 +31,11 @@ unfolding cassettes
 store-bytes s e = cassettes-bytes s (accepted-shaped s e .bytes) (s .m)
 
 -- an accepted store, with the words of the marks of its cassettes
-abbrev pub Marked : Store → List ℕ → Type 0
-Marked s w = Accepted s × (w ≡ withMarks noMarks (cassettes s))
+abbrev pub AcceptedMarks : Store → List ℕ → Type 0
+AcceptedMarks s w = Accepted s × (w ≡ withMarks noMarks (cassettes s))
 
 -- 9, or none, by the marks
-module _ (s t : Store) (v w : List ℕ) (p : Marked s v) (q : Marked t w) where
+module _ (s t : Store) (v w : List ℕ) (p : AcceptedMarks s v) (q : AcceptedMarks t w) where
   pub marks-differ : ((i : ℕ) → getD v i 0 < 2 ^ 64) → ((i : ℕ) → getD w i 0 < 2 ^ 64) → (v ≡ w → ⊥) → cassettesFault s t ≡ 9
   marks-differ g h n = other-cassettes s t (p .0) (q .0) λ c. n (counts-words v w _ _ (p .1) (q .1) g h c)
 

@@ -6,7 +6,7 @@ use native.Mathlib.Decide.{decLt}
 use native.Mathlib.Omega.{arith}
 use lib.ListN.{length, getD, length-reverseAux}
 use lib.Seq.{ext-getD}
-use Rattle.stacks.specs.Reading
+use Rattle.stacks.specs.Reading.{twoStackReading}
 use Rattle.store.specs.declared.Store.{Store}
 use Rattle.store.specs.Slots.{height, slot, upward, downward, stack}
 use Rattle.store.proofs.Rows.{stack-length, same-rows, rows-same}
@@ -58,7 +58,7 @@ module _ (s : Store) where
       ∙ ap (λ k. getD (s .slots) k 0) (omega arith))
 
   reading-length : length (twoShaftReading s) ≡ height s 0 + height s 1
-  unfolding Reading.twoStackReading
+  unfolding twoStackReading
   reading-length =
       ap length (reading-agrees s) ∙ length-reverseAux (stack s 0) (stack s 1) ∙ omega (arith, stack-length s 0, stack-length s 1)
 

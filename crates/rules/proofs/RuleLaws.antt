@@ -7,7 +7,7 @@ use native.Mathlib.Nat.{suc-mul}
 use native.Mathlib.Omega.{arith}
 use lib.ListN.{length, length-append, length-reverse}
 use Rattle.stacks.specs.Count.{total}
-use Rattle.stacks.specs.Reading
+use Rattle.stacks.specs.Reading.{twoStackReading}
 use Rattle.stacks.proofs.Counts.{same-length}
 use Rattle.store.specs.declared.Store.{Store}
 use Rattle.store.specs.Slots.{height, upward, downward, stack, cassettesBelow, cassettes, cassetteCount, emptyCount}
@@ -49,7 +49,7 @@ module _ (s : Store) (p : Shaped s) where
 
   -- with one shaft, the reading is that shaft's
   one-read : s .m ≡ 1 → twoShaftReading s ≡ reverse (stack s 0)
-  unfolding Reading.twoStackReading
+  unfolding twoStackReading
   one-read e = reading-agrees s ∙ ap (reverseAux (stack s 0)) (none-beyond s p 1 (omega arith))
 
 module _ (s t : Store) (p : Comparable s t) where

@@ -2,13 +2,13 @@
 use store::Store;
 use store::wide;
 ghost use mathlib.Core.Path.{_≡_};
-ghost use Prim.Native.Nat.{ℕ, suc, _+_, _-_, _*_, _≤_, _<_};
+ghost use Prim.Native.Nat.{ℕ, _+_, _-_, _*_, _≤_, _<_};
 ghost use lib.ListN.{getD};
-ghost use Rattle.store.specs.Slots.{height, slot, upward, cassetteCount};
+ghost use Rattle.store.specs.Slots.{height, upward, cassetteCount};
 ghost use Rattle.store.specs.Sound.{Shaped};
 ghost use Rattle.reach.specs.Deciding.{Decides};
 ghost use Rattle.reach.specs.Pairs.{Comparable};
-ghost use Rattle.reach.specs.Rules.{twoShaftReading, SameFloors, Rule};
+ghost use Rattle.reach.specs.Rules.{twoShaftReading, Rule};
 
 // The cassette at a place of the two-shaft reading of n cassettes: shaft 0 upward, then shaft 1 downward.
 fn read_at(s: Store, n: usize, p: usize) -> u8

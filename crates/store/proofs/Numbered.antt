@@ -1,8 +1,8 @@
 -- No two cases of an answer have the same number: each is the only one with its own.
-use mathlib.Core.Bool.{cond, _||_}
+use mathlib.Core.Bool.{cond}
 use mathlib.Core.Path.{_≡_, refl, sym, ap, _∙_}
 use Prim.Native.Nat.{ℕ}
-use lib.Dec.{eqb, ltb}
+use lib.Dec.{eqb}
 use Rattle.store.specs.declared.Fault.{Fault}
 use Rattle.store.specs.declared.Fault.the-variants.{OutOfPlace, TooHigh, NumberZero, Twice, TooMany}
 use Rattle.store.specs.declared.Verdict.{Verdict}

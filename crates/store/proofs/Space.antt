@@ -5,7 +5,7 @@ use native.Mathlib.Nat.{mul-le-mul}
 use native.Mathlib.Omega.{arith}
 use Rattle.store.specs.declared.Store.{Store}
 use Rattle.store.specs.Accept.{Accepted}
-use Rattle.store.specs.Slots.{cassetteCount, listSpace}
+use Rattle.store.specs.Slots.{listSpace}
 use Rattle.store.proofs.Acceptance.{accepted-sound}
 
 pub list-space-most : (s : Store) → Accepted s → listSpace s ≤ 18360

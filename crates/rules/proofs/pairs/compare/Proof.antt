@@ -7,7 +7,7 @@ use Prim.Native.Nat.{ℕ, _^_, _<_}
 use lib.ListN.{getD}
 use Rattle.store.proofs.Checks.{accepted-none, refused-one}
 use Rattle.rules.proofs.Answers.{refused-as, compared-as}
-use Rattle.rules.proofs.Faults.{Marked, shafts-differ, depths-differ, frames-agree, marks-differ, marks-agree}
+use Rattle.rules.proofs.Faults.{AcceptedMarks, shafts-differ, depths-differ, frames-agree, marks-differ, marks-agree}
 use Rattle.rules.proofs.pairs.compare.Statement.{statement}
 use Rattle.rules.proofs.pairs.compare.Tie as tie
 
@@ -19,10 +19,10 @@ goal-words : (c : tie.After-check2) (i : ℕ) → getD (c .check2 .result .marks
 goal-words c i = let f : Fits w64 (getD (c .check2 .result .marks .words) i 0) = search needs in f .fits
 
 -- where neither store is refused: both are accepted, and their marks are those of their cassettes
-start-marked : (c : tie.After-enum-told) → Marked (c .before .before .before .args .start) (c .before .before .check .result .marks .words)
+start-marked : (c : tie.After-enum-told) → AcceptedMarks (c .before .before .before .args .start) (c .before .before .check .result .marks .words)
 start-marked c = accepted-none _ _ _ (c .before .before .check .ensures) (c .enum-told .given .1)
 
-goal-marked : (c : tie.After-enum-told2) → Marked (c .before .before .before .before .before .before .args .goal) (c .before .before .check2 .result .marks .words)
+goal-marked : (c : tie.After-enum-told2) → AcceptedMarks (c .before .before .before .before .before .before .args .goal) (c .before .before .check2 .result .marks .words)
 goal-marked c = accepted-none _ _ _ (c .before .before .check2 .ensures) (c .enum-told2 .given .1)
 
 check-requires : tie.Need-check-requires

@@ -1,6 +1,6 @@
 -- `lift` meets its contract: the store's own fault, then the lift's, then the lift.
 use borrow.Author.Needs.{needs}
-use mathlib.Core.Path.{_≡_, sym, ap, _∙_}
+use mathlib.Core.Path.{sym, ap, _∙_}
 use Rattle.store.specs.Numbers.{judgedNumber}
 use Rattle.store.proofs.Acceptance.{accepted-shaped}
 use Rattle.store.proofs.Checks.{accepted-none, refused-one}

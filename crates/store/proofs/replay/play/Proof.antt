@@ -1,6 +1,6 @@
 -- `play` meets its contract. The invariant: the replay of the whole list goes on from the store reached with what is left of the list.
 use borrow.Author.Needs.{needs}
-use mathlib.Core.Path.{_≡_, sym, ap, _∙_}
+use mathlib.Core.Path.{sym, ap, _∙_}
 use Prim.Native.Nat.{_≤_, _-_}
 use native.Mathlib.Omega.{arith}
 use lib.ListN.{length}
