@@ -19,19 +19,19 @@ use Rattle.reach.specs.Rules.{twoShaftReading, floor}
 use Rattle.reach.specs.Tests.{ruleTest}
 use Rattle.reach.proofs.RuleTests.{list-test, store-test, reachable-test}
 use Rattle.reach.proofs.Sets.{comparable}
-use Rattle.cases.specs.Claims.{Claim, liftGets, yesBy, unreachable, spaceIs, readingGets, imageIs, Holds, AllHold}
+use Rattle.cases.specs.Claims.{Claim, liftGets, yesBy, unreachable, spaceIs, readingGets, imageIs, ClaimHolds, AllHold}
 use Rattle.cases.specs.Table.{table}
-use Rattle.cases.specs.Tests.{sameReading, tested, allTested}
+use Rattle.cases.specs.Tests.{readAlike, tested, allTested}
 
-same-reading : (o q : Reading) → sameReading o q ≡ true → o ≡ q
-same-reading o q e =
+read-alike : (o q : Reading) → readAlike o q ≡ true → o ≡ q
+read-alike o q e =
     let p = both-true (eqb (o .number) (q .number)) _ e in
     let n = eqb-true (o .number) (q .number) (p .0) in
     let s = store-test (o .store) (q .store) .so (p .1) in
     λ i. record { store = s i; number = n i }
 
 -- a claim that passes its test holds
-holds : (c : Claim) → tested c ≡ true → Holds c
+holds : (c : Claim) → tested c ≡ true → ClaimHolds c
 unfolding tested
 holds (liftGets s a b k) e = eqb-true (liftNumber s a b) k e
 holds (yesBy s bs t) e =
@@ -45,10 +45,10 @@ holds (unreachable s t) e =
     let f = eqb-true (pairFault s t) 0 (p .0) in
     (f, reachable-test s t (comparable s t f) .not-so (not-true (ruleTest s t) (p .1)))
 holds (spaceIs s k) e = eqb-true (listSpace s) k e
-holds (readingGets bytes k) e = same-reading _ _ e
+holds (readingGets bytes k) e = read-alike _ _ e
 holds (imageIs bytes s) e =
-    let p = both-true (sameReading (readImage bytes) (record { store = s; number = 0 })) _ e in
-    (same-reading _ _ (p .0), list-test (imageOf s) bytes .so (p .1))
+    let p = both-true (readAlike (readImage bytes) (record { store = s; number = 0 })) _ e in
+    (read-alike _ _ (p .0), list-test (imageOf s) bytes .so (p .1))
 
 all-hold : (cs : List Claim) → allTested cs ≡ true → AllHold cs
 unfolding allTested

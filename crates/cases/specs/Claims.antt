@@ -42,15 +42,15 @@ pub data Claim : Type 0 where
   -- an image is read as a store, which is written as that image
   imageIs : List ℕ → Store → Claim
 
-abbrev pub Holds : Claim → Type 0
-Holds (liftGets s a b k) = liftNumber s a b ≡ k
-Holds (yesBy s bs t) = (pairFault s t ≡ 0) × Leads s bs t
-Holds (unreachable s t) = (pairFault s t ≡ 0) × (Reachable s t → ⊥)
-Holds (spaceIs s k) = listSpace s ≡ k
-Holds (readingGets bytes k) = readImage bytes ≡ refused k
-Holds (imageIs bytes s) = (readImage bytes ≡ record { store = s; number = 0 }) × (imageOf s ≡ bytes)
+abbrev pub ClaimHolds : Claim → Type 0
+ClaimHolds (liftGets s a b k) = liftNumber s a b ≡ k
+ClaimHolds (yesBy s bs t) = (pairFault s t ≡ 0) × Leads s bs t
+ClaimHolds (unreachable s t) = (pairFault s t ≡ 0) × (Reachable s t → ⊥)
+ClaimHolds (spaceIs s k) = listSpace s ≡ k
+ClaimHolds (readingGets bytes k) = readImage bytes ≡ refused k
+ClaimHolds (imageIs bytes s) = (readImage bytes ≡ record { store = s; number = 0 }) × (imageOf s ≡ bytes)
 
 -- every claim of a list holds
 abbrev pub AllHold : List Claim → Type 0
 AllHold [] = Unit {0}
-AllHold (c ∷ cs) = Holds c × AllHold cs
+AllHold (c ∷ cs) = ClaimHolds c × AllHold cs

@@ -29,11 +29,11 @@ abbrev pub nineList : List ℕ
 nineList = 0x12 ∷ 0x12 ∷ 0x01 ∷ 0x01 ∷ 0x20 ∷ 0x20 ∷ 0x21 ∷ 0x02 ∷ 0x02 ∷ 0x02 ∷ 0x10 ∷ 0x21 ∷ []
 
 -- "m 1, h 2, [1 2]", and "[2 1]"
-abbrev pub one : Store
-one = storeOf 2 ((1 ∷ 2 ∷ []) ∷ [])
+abbrev pub oneShaft : Store
+oneShaft = storeOf 2 ((1 ∷ 2 ∷ []) ∷ [])
 
-abbrev pub oneTurned : Store
-oneTurned = storeOf 2 ((2 ∷ 1 ∷ []) ∷ [])
+abbrev pub oneShaftTurned : Store
+oneShaftTurned = storeOf 2 ((2 ∷ 1 ∷ []) ∷ [])
 
 -- "m 2, h 3, [1 2] [3]", "[1] [3 2]", and "[1] [2 3]"
 abbrev pub two : Store
@@ -60,8 +60,8 @@ abbrev pub table : List Claim
 table =
     yesBy bare [] bare
     ∷ spaceIs bare 0
-    ∷ yesBy one [] one
-    ∷ unreachable one oneTurned
+    ∷ yesBy oneShaft [] oneShaft
+    ∷ unreachable oneShaft oneShaftTurned
     ∷ yesBy two (0x01 ∷ []) twoShifted
     ∷ unreachable two twoTurned
     ∷ yesBy singles (0x02 ∷ 0x10 ∷ 0x21 ∷ []) singlesExchanged

@@ -12,7 +12,7 @@ use Rattle.planner.specs.declared.Planned.{Planned}
 use Rattle.planner.specs.Numbers.{planNumber}
 use Rattle.planner.specs.Promises.{PlanIs}
 use Rattle.image.specs.Reading.{Reading, readImage}
-use Rattle.halyardgage.specs.Calls.{answerOf, Refuses, readFault, readFaults, ReachGives, ReachCallIs, PlanGives, PlanCallIs}
+use Rattle.halyardgage.specs.Calls.{answerOf, RefusedCall, readFault, readFaults, ReachGives, ReachCallIs, PlanGives, PlanCallIs}
 use Rattle.halyardgage.proofs.Readings.{Stands}
 
 -- The images are refused with the number k.
@@ -31,7 +31,7 @@ module _ {a b : List ℕ} {k : ℕ} (p : Refused a b k) where
   pub reach-refused : ReachCallIs a b k
   reach-refused = record { unread = λ _. sym (p .is); answered = λ z. absurd (p .one (sym (p .is) ∙ z)) }
 
-  pub plan-refused : {came out : List ℕ} {r : ℕ} → Refuses k came out r → PlanCallIs a b came r out
+  pub plan-refused : {came out : List ℕ} {r : ℕ} → RefusedCall k came out r → PlanCallIs a b came r out
   plan-refused q = record { unread = λ _. (q .number ∙ sym (p .is), q .bytes); answered = λ z. absurd (p .one (sym (p .is) ∙ z)) }
 
 -- both images are read

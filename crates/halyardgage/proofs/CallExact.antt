@@ -12,7 +12,7 @@ use Rattle.store.proofs.Space.{list-space-most}
 use Rattle.reach.specs.Pairs.{Comparable}
 use Rattle.rules.specs.Numbers.{reachNumber}
 use Rattle.rules.specs.Promises.{ReachSays}
-use Rattle.rules.proofs.Exact.{yes-exactly, no-exactly, zero-is-yes, fifteen-is-no}
+use Rattle.rules.proofs.Exact.{one-reach, yes-exactly, no-exactly, zero-is-yes, fifteen-is-no}
 use Rattle.planner.specs.Numbers.{planNumber}
 use Rattle.planner.specs.Promises.{PlanSays, Lists}
 use Rattle.planner.proofs.PlanExact.{listed-list, zero-is-listed, fifteen-is-unreachable, number-most}
@@ -48,6 +48,15 @@ module _ {a b : List ℕ} {r : ℕ} (p : ReachCallIs a b r) where
 
     pub no-called : (Reachable (storeIn a) (storeIn b) → ⊥) → r ≡ 15
     no-called n = let g = p .answered z in g .number ∙ ap reachNumber (no-exactly _ _ (g .answer) (g .says) c .0 n)
+
+-- the yes or no of two images is one number
+pub one-reach-call : {a b : List ℕ} {r q : ℕ} → ReachCallIs a b r → ReachCallIs a b q → r ≡ q
+one-reach-call {a} {b} {r} {q} u v =
+    elim (ℕ-discrete (readFaults a b) 0) [
+      | yes z ↦ (let g = u .answered z in let h = v .answered z in
+          g .number ∙ ap reachNumber (one-reach _ _ (g .answer) (h .answer) (g .says) (h .says)) ∙ sym (h .number))
+      | no n ↦ u .unread n ∙ sym (v .unread n)
+    ]
 
 -- the number of an answer is its low byte, the count what stands above it
 low-byte : (count number r : ℕ) → number < 256 → r ≡ answerOf count number → (r % 256 ≡ number) × (r / 256 ≡ count % 2 ^ 56)

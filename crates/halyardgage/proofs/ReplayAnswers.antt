@@ -22,7 +22,7 @@ use Rattle.image.specs.Writing.{bytesAfter, WriteIs}
 use Rattle.image.proofs.Carried.{length-bytes}
 use Rattle.image.proofs.Outputs.{not-refused}
 use Rattle.image.proofs.RoundTrip.{read-written}
-use Rattle.halyardgage.specs.Calls.{answerOf, Refuses, storeIn, readFault, replayCallFault, ReplayCallIs}
+use Rattle.halyardgage.specs.Calls.{answerOf, RefusedCall, storeIn, readFault, replayCallFault, ReplayCallIs}
 use Rattle.halyardgage.proofs.Kept.{leads-length, leads-accepted, replay-reaches}
 use Rattle.halyardgage.proofs.Readings.{Stands}
 
@@ -48,15 +48,15 @@ fault-left came e = ap (λ (o : Reading). first (o .number) (given (ltb (length 
 
 module _ {a list came : List ℕ} where
   -- a call that wrote nothing
-  refused-as : {k r : ℕ} {out : List ℕ} → Refuses k came out r → replayCallFault a came ≡ k → (k ≡ 0 → ⊥) → ReplayCallIs a list came r out
+  refused-as : {k r : ℕ} {out : List ℕ} → RefusedCall k came out r → replayCallFault a came ≡ k → (k ≡ 0 → ⊥) → ReplayCallIs a list came r out
   refused-as q f n = record { refused = λ _. (q .number ∙ sym f, q .bytes); replayed = λ z. absurd (n (sym f ∙ z)) }
 
-  pub replay-refused : {k r : ℕ} {out : List ℕ} → Refuses k came out r → k ≡ readFault a → (k ≡ 0 → ⊥) → ReplayCallIs a list came r out
+  pub replay-refused : {k r : ℕ} {out : List ℕ} → RefusedCall k came out r → k ≡ readFault a → (k ≡ 0 → ⊥) → ReplayCallIs a list came r out
   replay-refused q e n =
       refused-as q (first-stays (readFault a) (given (ltb (length came) (imageLength (storeIn a))) 10) (λ z. n (e ∙ z)) ∙ sym e) n
 
   module _ (small : (i : ℕ) → getD a i 0 < 256) {s : Store} (e : Stands a s) where
-    pub replay-little-space : {r : ℕ} {out : List ℕ} → Refuses 10 came out r → length came < length a → ReplayCallIs a list came r out
+    pub replay-little-space : {r : ℕ} {out : List ℕ} → RefusedCall 10 came out r → length came < length a → ReplayCallIs a list came r out
     replay-little-space q h =
         refused-as q
         (fault-left came e ∙ ap (λ b. given b 10) (lt-ltb (length came) (imageLength s) (omega (arith, length-read small e))))

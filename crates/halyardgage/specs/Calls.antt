@@ -23,7 +23,7 @@ abbrev pub answerOf : ℕ → ℕ → ℕ
 answerOf count number = count % 2 ^ 56 * 256 + number
 
 -- A refused call gives its number k, and leaves the lent bytes as they came.
-pub record Refuses (k : ℕ) (came out : List ℕ) (r : ℕ) : Type 0 where
+pub record RefusedCall (k : ℕ) (came out : List ℕ) (r : ℕ) : Type 0 where
   pub number : r ≡ k
   pub bytes : out ≡ came
 

@@ -9,7 +9,7 @@ use rules::number::reach_number;
 use rules::reachable;
 use store::number::end_number;
 ghost use mathlib.Core.Path.{_≡_};
-ghost use Rattle.halyardgage.specs.Calls.{answerOf, Refuses, readFault, ReachCallIs, PlanCallIs, ReplayCallIs};
+ghost use Rattle.halyardgage.specs.Calls.{answerOf, RefusedCall, readFault, ReachCallIs, PlanCallIs, ReplayCallIs};
 
 // The two parts of an answer put together.
 fn answer(count: usize, number: u8) -> u64
@@ -20,7 +20,7 @@ fn answer(count: usize, number: u8) -> u64
 
 // A refused call on lent bytes: the number alone, and the bytes as they came.
 fn refused(number: u8, out: &mut [u8]) -> u64
-    ensures { λ r. ⌜ Refuses number (now (out .entry)) (now (out .exit)) r ⌝ }
+    ensures { λ r. ⌜ RefusedCall number (now (out .entry)) (now (out .exit)) r ⌝ }
 {
     number as u64
 }

@@ -57,9 +57,6 @@ module _ (n : ℕ) (l : List ℕ) (sized : length l ≡ n) where
       let e : n - n ≡ 0 = omega arith in
       ap (λ (k : ℕ). take n l ++ replicate k 0) e ∙ append-nil (take n l) ∙ take-all n l (omega arith)
 
-  pub cut-length : (p : ℕ) → p ≤ n → length (cutAt n p l) ≡ n
-  cut-length p h = simp (length-append, length-replicate) (omega (arith, length-take-le p l (omega arith)))
-
   pub cut-cut : (p q : ℕ) → p ≤ q → q ≤ n → cutAt n p (cutAt n q l) ≡ cutAt n p l
   cut-cut p q h k =
       ap (λ (m : List ℕ). m ++ replicate (n - p) 0)

@@ -25,7 +25,7 @@ use Rattle.image.specs.declared.WriteAnswer.the-variants.{Whole}
 use Rattle.image.specs.declared.Written.{Written}
 use Rattle.image.specs.Image.{headBits, shaftBits, shaftsBits, imageBits, imageLength, imageOf}
 use Rattle.image.specs.Numbers.{writeNumber}
-use Rattle.image.specs.Writing.{writeRefusal, bytesAfter, countAfter, Refuses, WriteIs}
+use Rattle.image.specs.Writing.{writeRefusal, bytesAfter, countAfter, RefusedWrite, WriteIs}
 use Rattle.image.proofs.Answered.{only-write}
 
 pub no-rows : (s : Store) (x : ℕ) (out : List ℕ) (p : Pen) → p .full < 8 → Pushes (packed 8 (upward s x 0)) out out p p
@@ -64,7 +64,7 @@ none-written zero s out n = absurd (n refl)
 none-written (suc k) s out n = refl
 
 -- a refusal with the number that is due
-pub refused-write : (s : Store) {out next : List ℕ} {r : Written} (a : WriteAnswer) → Refuses a out next r → writeRefusal s (length out) ≡ writeNumber a
+pub refused-write : (s : Store) {out next : List ℕ} {r : Written} (a : WriteAnswer) → RefusedWrite a out next r → writeRefusal s (length out) ≡ writeNumber a
     → (writeNumber a ≡ 0 → ⊥) → WriteIs s out next r
 refused-write s {out} {next} {r} a p e n =
     rw (p .is) (record {

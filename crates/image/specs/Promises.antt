@@ -42,14 +42,14 @@ pub record Reads (bytes : List ℕ) (part : Part) (far : ℕ) (w r : Work) : Typ
   pub number : w .fault ≤ 7 → r .fault ≤ 7
 
 -- A reading that came to its end in the state r: the first fault, or the store.
-abbrev pub ended : Work → Reading
-ended r = unless (r .fault) (record { store = r .store; number = 0 })
+abbrev pub outcome : Work → Reading
+outcome r = unless (r .fault) (record { store = r .store; number = 0 })
 
 pub record Ends (o : Reading) (r : Work) : Type 0 where
-  pub is : ended r ≡ o
+  pub is : outcome r ≡ o
   pub number : r .fault ≤ 7
 
 -- The end of a reading took the state from w to r, whatever cassettes came before.
 pub record Finishes (bytes : List ℕ) (w r : Work) : Type 0 where
-  pub is : (before : List ℕ) → Marked (w .marks .words) before → ended r ≡ going bytes w before finish
+  pub is : (before : List ℕ) → Marked (w .marks .words) before → outcome r ≡ going bytes w before finish
   pub number : w .fault ≤ 7 → r .fault ≤ 7

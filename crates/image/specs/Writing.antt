@@ -27,7 +27,7 @@ countAfter zero s = imageLength s
 countAfter (suc k) s = 0
 
 -- A refusal gives its answer, counts no byte, and leaves the lent bytes as they came.
-pub record Refuses (a : WriteAnswer) (came out : List ℕ) (r : Written) : Type 0 where
+pub record RefusedWrite (a : WriteAnswer) (came out : List ℕ) (r : Written) : Type 0 where
   pub is : r ≡ record { count = 0; answer = a }
   pub bytes : out ≡ came
 

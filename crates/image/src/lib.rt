@@ -7,7 +7,7 @@ pub mod writing;
 use store::Fault;
 use store::Store;
 
-// Why an image is refused: 1 to 7.
+// Whether an image is accepted, or why it is refused: 1 to 7.
 pub enum ReadAnswer {
     Accepted,
     WrongForm,
@@ -25,7 +25,7 @@ pub struct Read {
     pub answer: ReadAnswer,
 }
 
-// Why no image is written: the store's number, or 10.
+// Whether an image is written, or why not: the store's number, or 10.
 pub enum WriteAnswer {
     Whole,
     StoreRefused(Fault),

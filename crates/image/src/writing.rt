@@ -16,7 +16,7 @@ ghost use Rattle.bits.specs.Pens.{noBits, Pushes};
 ghost use Rattle.store.specs.Slots.{height, upward};
 ghost use Rattle.store.specs.Sound.{Shaped};
 ghost use Rattle.image.specs.Image.{headBits, shaftBits, shaftsBits};
-ghost use Rattle.image.specs.Writing.{Refuses, WriteIs};
+ghost use Rattle.image.specs.Writing.{RefusedWrite, WriteIs};
 
 // How many bits the shafts below m take.
 fn count_bits(s: Store) -> usize
@@ -85,7 +85,7 @@ fn write_shafts(s: Store, out: &mut [u8], p: Pen) -> Pen
 
 // A refusal: no byte counted, and the lent bytes as they came.
 fn refused(answer: WriteAnswer, out: &mut [u8]) -> Written
-    ensures { λ r. ⌜ Refuses answer (now (out .entry)) (now (out .exit)) r ⌝ }
+    ensures { λ r. ⌜ RefusedWrite answer (now (out .entry)) (now (out .exit)) r ⌝ }
 {
     Written { count: 0, answer }
 }

@@ -4,11 +4,16 @@ use image::Read;
 use image::number::read_number;
 use image::reading::read;
 use libc::STDOUT_FILENO;
+use planner::PlanAnswer;
+use planner::Planned;
 use planner::make_list;
 use planner::number::plan_number;
 use store::Store;
 use store::byte::entered_of;
 use store::byte::left_of;
+ghost use mathlib.Core.Path.{_≡_};
+ghost use Prim.Native.Nat.{_≤_};
+ghost use lib.ListN.{length};
 ghost use Rattle.io.specs.Counts.{Counts};
 
 // Fills the buffer from a file and tells how many of its bytes count: up to the end of the file or of the buffer, and none where a read
@@ -70,15 +75,22 @@ fn print_list(list: &[u8], count: usize) {
     }
 }
 
-// The bytes lent are as many as any accepted store needs (`list-space-most`, crates/store/proofs/Space.antt), so 10 is never given
-// (`space-suffices`, crates/planner/proofs/PlanExact.antt).
+// The list maker, lent as many bytes as any accepted store needs (`list-space-most`, crates/store/proofs/Space.antt), so that 10 is
+// never given.
+fn planned(start: Store, goal: Store, list: &mut [u8]) -> Planned
+    requires { ⌜ 18360 ≤ length (now list) ⌝ }
+    ensures { λ r. ⌜ (r .answer ≡ PlanAnswer.LittleSpace → ⊥) ⌝ }
+{
+    make_list(start, goal, list)
+}
+
 fn print_plan(start: Store, goal: Store) {
     let mut list = [0u8; 18360];
-    let planned = make_list(start, goal, &mut list);
-    let answer = planned.answer;
+    let made = planned(start, goal, &mut list);
+    let answer = made.answer;
     let number = plan_number(answer);
     if number == 0 {
-        print_list(&list, planned.count);
+        print_list(&list, made.count);
         return;
     }
     refused(number, b" both\n");

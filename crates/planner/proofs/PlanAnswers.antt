@@ -14,7 +14,7 @@ use Rattle.moves.specs.Written.{Steps}
 use Rattle.moves.proofs.Stepping.{steps-none}
 use Rattle.planner.specs.declared.PlanAnswer.{PlanAnswer}
 use Rattle.planner.specs.declared.Planned.{Planned}
-use Rattle.planner.specs.Promises.{PlanSays, PlanLeaves, Untouched, Refuses, MadeIs, PlanIs}
+use Rattle.planner.specs.Promises.{PlanSays, PlanLeaves, Untouched, RefusedPlan, MadeIs, PlanIs}
 
 -- stores that can be compared have few rows and few cassettes
 pub counted-few : (s t : Store) → Comparable s t → (s .h ≤ 16) × (cassetteCount s ≤ 255)
@@ -27,7 +27,7 @@ space-counted s h n k e f g = g ∙ rw (e, f)
 
 module _ (s t : Store) (came : List ℕ) where
   -- a refusal that is right is the answer
-  pub refused-as : (a : PlanAnswer) {out : List ℕ} {r : Planned} → Refuses a came out r → PlanSays s t came a → (Untouched came out 0 → PlanLeaves s t came out 0 a)
+  pub refused-as : (a : PlanAnswer) {out : List ℕ} {r : Planned} → RefusedPlan a came out r → PlanSays s t came a → (Untouched came out 0 → PlanLeaves s t came out 0 a)
       → PlanIs s t came out r
   refused-as a e p q = rw (e .is) (record { answer = p; left = q (record { count = refl; bytes = e .bytes }) })
 

@@ -1,7 +1,7 @@
 -- The promise of the list maker is exact: no two values of its answer are right at once, a list is made exactly where one exists and 15 given exactly
 -- where none does, and the greatest list space always suffices.
 use borrow.Author.Tests.{lt-ltb, le-ltb}
-use mathlib.Core.Bool.{cond}
+use mathlib.Core.Bool.{not, cond}
 use mathlib.Core.List.{List}
 use mathlib.Core.Path.{_≡_, refl, sym, ap, _∙_, subst}
 use Prim.Native.Nat.{ℕ, _≤_}
@@ -9,13 +9,16 @@ use native.Mathlib.Omega.{arith}
 use lib.Dec.{ltb}
 use lib.ListN.{length}
 use Rattle.store.specs.declared.Store.{Store}
+use Rattle.store.specs.Accept.{given, first}
 use Rattle.store.specs.Lists.{Reachable}
 use Rattle.store.specs.Slots.{listSpace}
+use Rattle.store.proofs.Faulted.{first-stays}
 use Rattle.store.proofs.Space.{list-space-most}
-use Rattle.reach.specs.Pairs.{Comparable}
+use Rattle.reach.specs.Pairs.{pairFault, Comparable}
 use Rattle.reach.specs.Tests.{ruleTest}
+use Rattle.reach.proofs.Sets.{comparable-faultless}
 use Rattle.rules.specs.declared.pairs.Pair.{Pair}
-use Rattle.rules.proofs.Exact.{pairTold, pair-told, test-true, test-false, fault-numbers}
+use Rattle.rules.proofs.Exact.{fault-numbers, pairTold, pair-told, pair-numbered, test-true, test-false}
 use Rattle.planner.specs.declared.PlanAnswer.{PlanAnswer}
 use Rattle.planner.specs.declared.Planned.{Planned}
 use Rattle.planner.specs.Numbers.{planNumber}
@@ -38,6 +41,17 @@ module _ (s t : Store) (came : List ℕ) where
 
   pub one-plan : (a b : PlanAnswer) → PlanSays s t came a → PlanSays s t came b → a ≡ b
   one-plan a b p q = sym (plan-told a p) ∙ plan-told b q
+
+  -- its number is the first of the start's, the goal's, 8, 9, 10 and 15
+  pub plan-numbered : (a : PlanAnswer) → PlanSays s t came a
+      → planNumber a ≡ first (pairFault s t) (first (given (ltb (length came) (listSpace s)) 10) (given (not (ruleTest s t)) 15))
+  plan-numbered (PlanAnswer.Refused f) e =
+      let q = pair-numbered s t (Pair.Refused f) e in
+      q ∙ sym (first-stays (pairFault s t) _ (λ z. omega (arith, q, fault-numbers f)))
+  plan-numbered PlanAnswer.LittleSpace (p, h) = simp (comparable-faultless s t p, lt-ltb (length came) (listSpace s) h)
+  plan-numbered PlanAnswer.Unreachable (p, (h, n)) =
+      simp (comparable-faultless s t p, le-ltb (length came) (listSpace s) h, test-false s t p n)
+  plan-numbered PlanAnswer.Listed (p, (h, l)) = simp (comparable-faultless s t p, le-ltb (length came) (listSpace s) h, test-true s t p l)
 
   module _ (out : List ℕ) (r : Planned) (q : PlanIs s t came out r) where
     -- the list of an answer that says there is one

@@ -6,7 +6,7 @@ use native.Mathlib.Omega.{arith}
 use lib.ListN.{replicate, length-replicate}
 use Rattle.stacks.specs.Run.{Run, Within}
 use Rattle.stacks.specs.Moves.{shift}
-use Rattle.stacks.specs.Reading.{twoStackReading}
+use Rattle.stacks.specs.TwoStackReading.{twoStackReading}
 use Rattle.stacks.proofs.TwoShafts.{two-shift, two-unshift}
 use Rattle.store.specs.declared.Store.{Store}
 use Rattle.store.specs.Slots.{depth, height, stack, cassetteCount, listSpace}

@@ -47,7 +47,7 @@ pub record PlanIs (s t : Store) (came out : List ℕ) (r : Planned) : Type 0 whe
   pub left : PlanLeaves s t came out (r .count) (r .answer)
 
 -- A refusal gives its answer, counts no lift, and leaves the lent bytes as they came.
-pub record Refuses (a : PlanAnswer) (came out : List ℕ) (r : Planned) : Type 0 where
+pub record RefusedPlan (a : PlanAnswer) (came out : List ℕ) (r : Planned) : Type 0 where
   pub is : r ≡ record { answer = a; count = 0 }
   pub bytes : out ≡ came
 

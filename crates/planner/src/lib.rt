@@ -13,7 +13,7 @@ use store::Store;
 use store::wide;
 ghost use mathlib.Core.Path.{_≡_};
 ghost use Prim.Native.Nat.{_+_, _*_, _≤_};
-ghost use Rattle.planner.specs.Promises.{Refuses, PlanIs};
+ghost use Rattle.planner.specs.Promises.{RefusedPlan, PlanIs};
 
 // How the list maker answers: a list, or refused with the fault of the pair, 10 or 15.
 pub enum PlanAnswer {
@@ -39,7 +39,7 @@ fn list_space(h: usize, n: usize) -> usize
 
 // A refusal: no list, and the lent bytes as they came.
 fn refused(answer: PlanAnswer, out: &mut [u8]) -> Planned
-    ensures { λ r. ⌜ Refuses answer (now (out .entry)) (now (out .exit)) r ⌝ }
+    ensures { λ r. ⌜ RefusedPlan answer (now (out .entry)) (now (out .exit)) r ⌝ }
 {
     Planned { answer, count: 0 }
 }

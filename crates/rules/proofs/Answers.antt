@@ -4,10 +4,9 @@ use mathlib.Core.List.{List}
 use mathlib.Core.Path.{_≡_, refl, ap, _∙_, subst}
 use Prim.Native.Nat.{ℕ}
 use Rattle.store.specs.declared.Store.{Store}
-use Rattle.store.specs.Slots.{cassettes, cassetteCount}
+use Rattle.store.specs.Slots.{cassetteCount}
 use Rattle.store.specs.Marking.{markCount}
-use Rattle.store.proofs.Acceptance.{accepted-sound}
-use Rattle.store.proofs.MarkLaws.{count-of}
+use Rattle.store.proofs.Acceptance.{accepted-count}
 use Rattle.reach.specs.Deciding.{Decides}
 use Rattle.reach.specs.Pairs.{Comparable}
 use Rattle.reach.specs.Rules.{Rule}
@@ -16,7 +15,7 @@ use Rattle.rules.specs.declared.pairs.PairFault.{PairFault}
 use Rattle.rules.specs.declared.pairs.Pair.{Pair}
 use Rattle.rules.specs.declared.pairs.Compared.{Compared}
 use Rattle.rules.specs.Promises.{Faulty, PairSays, countFor, CompareIs, yesOrNo, ReachSays}
-use Rattle.rules.proofs.Faults.{AcceptedMarks, store-bytes}
+use Rattle.rules.proofs.Faults.{AcceptedMarks}
 
 module _ (s t : Store) where
   pub refused-as : (f : PairFault) (r : Compared) → r ≡ record { pair = Pair.Refused f; n = 0 } → Faulty s t f → CompareIs s t r
@@ -24,10 +23,9 @@ module _ (s t : Store) where
 
   -- the count of an accepted store's marks is the count of its cassettes
   pub compared-as : (n : ℕ) (v : List ℕ) → Comparable s t → AcceptedMarks s v → n ≡ markCount v → CompareIs s t (record { pair = Pair.Comparable; n = n })
-  unfolding cassetteCount
   compared-as n v p m e = record {
     pair = p;
-    count = e ∙ ap markCount (m .1) ∙ count-of (cassettes s) (store-bytes s (m .0)) (accepted-sound s (m .0) .once);
+    count = e ∙ ap markCount (m .1) ∙ accepted-count s (m .0);
   }
 
   pub comparable-by : (r : Compared) → CompareIs s t r → r .pair ≡ Pair.Comparable → Comparable s t

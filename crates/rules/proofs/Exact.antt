@@ -1,13 +1,13 @@
 -- The promises on two stores are exact: no two values of an answer are right at once, the right one has document 01's number, and "yes" and "no" are
 -- given exactly where they are so.
-use mathlib.Core.Bool.{Bool, true, false, cond}
+use mathlib.Core.Bool.{Bool, true, false, not, cond}
 use mathlib.Core.Path.{_≡_, refl, sym, ap, _∙_, subst}
 use Prim.Native.Nat.{ℕ, _<_}
 use native.Mathlib.Omega.{arith}
 use lib.Dec.{eqb}
 use Rattle.store.specs.declared.Store.{Store}
 use Rattle.store.specs.declared.Fault.{Fault}
-use Rattle.store.specs.Accept.{storeFault}
+use Rattle.store.specs.Accept.{given, first, storeFault}
 use Rattle.store.specs.Lists.{Reachable}
 use Rattle.store.specs.Numbers.{faultNumber}
 use Rattle.store.proofs.Checks.{fault-one, fault-most}
@@ -23,6 +23,16 @@ use Rattle.rules.specs.declared.Reach.{Reach}
 use Rattle.rules.specs.Numbers.{pairFaultNumber, pairNumber, reachNumber}
 use Rattle.rules.specs.Promises.{Faulty, PairSays, yesOrNo, ReachSays}
 use Rattle.rules.proofs.Faults.{frames-agree}
+
+store-number : (f : Fault) → (0 < faultNumber f) × (faultNumber f < 15)
+store-number f = let n = fault-one f in (omega arith, omega (arith, fault-most f))
+
+-- the numbers of the faults are neither 0 nor 15
+pub fault-numbers : (f : PairFault) → (0 < pairFaultNumber f) × (pairFaultNumber f < 15)
+fault-numbers (PairFault.StartRefused f) = store-number f
+fault-numbers (PairFault.GoalRefused f) = store-number f
+fault-numbers PairFault.Frames = (omega arith, omega arith)
+fault-numbers PairFault.Cassettes = (omega arith, omega arith)
 
 module _ (s t : Store) where
   -- what the faults of the stores leave to say
@@ -54,11 +64,6 @@ module _ (s t : Store) where
 
   pub one-pair : (p q : Pair) → PairSays s t p → PairSays s t q → p ≡ q
   one-pair p q a b = sym (pair-told p a) ∙ pair-told q b
-
-  pub not-faulty : (f : PairFault) → Comparable s t → Faulty s t f → ⊥
-  not-faulty f p e =
-      let q : Pair.Comparable ≡ Pair.Refused f = one-pair Pair.Comparable (Pair.Refused f) p e in
-      let z : _≡_ {A = ℕ} 0 1 = cc in omega arith
 
   -- the number follows from the value
   pub pair-numbered : (p : Pair) → PairSays s t p → pairNumber p ≡ pairFault s t
@@ -98,6 +103,14 @@ module _ (s t : Store) where
   pub one-reach : (r q : Reach) → ReachSays s t r → ReachSays s t q → r ≡ q
   one-reach r q a b = sym (reach-told r a) ∙ reach-told q b
 
+  -- its number is the first of the start's, the goal's, 8, 9 and 15
+  pub reach-numbered : (r : Reach) → ReachSays s t r → reachNumber r ≡ first (pairFault s t) (given (not (ruleTest s t)) 15)
+  reach-numbered Reach.Yes (p, l) = simp (comparable-faultless s t p, test-true p l)
+  reach-numbered (Reach.Refused f) e =
+      let q = pair-numbered (Pair.Refused f) e in
+      q ∙ sym (first-stays (pairFault s t) _ (λ z. omega (arith, q, fault-numbers f)))
+  reach-numbered Reach.Unreachable (p, n) = simp (comparable-faultless s t p, test-false p n)
+
   -- on comparable stores: yes exactly if some list leads from start to goal, 15 exactly if none of any length does
   module _ (r : Reach) (a : ReachSays s t r) (p : Comparable s t) where
     pub yes-exactly : (Reachable s t → r ≡ Reach.Yes) × (r ≡ Reach.Yes → Reachable s t)
@@ -105,16 +118,6 @@ module _ (s t : Store) where
 
     pub no-exactly : ((Reachable s t → ⊥) → r ≡ Reach.Unreachable) × (r ≡ Reach.Unreachable → Reachable s t → ⊥)
     no-exactly = (λ n. one-reach r Reach.Unreachable a (p, n), λ e. subst (ReachSays s t) e a .1)
-
-store-number : (f : Fault) → (0 < faultNumber f) × (faultNumber f < 15)
-store-number f = let n = fault-one f in (omega arith, omega (arith, fault-most f))
-
--- the numbers of the faults are neither 0 nor 15
-pub fault-numbers : (f : PairFault) → (0 < pairFaultNumber f) × (pairFaultNumber f < 15)
-fault-numbers (PairFault.StartRefused f) = store-number f
-fault-numbers (PairFault.GoalRefused f) = store-number f
-fault-numbers PairFault.Frames = (omega arith, omega arith)
-fault-numbers PairFault.Cassettes = (omega arith, omega arith)
 
 -- so 0 and 15 are given for one answer each
 pub zero-is-yes : (r : Reach) → reachNumber r ≡ 0 → r ≡ Reach.Yes

@@ -8,9 +8,7 @@ use Rattle.store.specs.declared.Store.{Store}
 use Rattle.store.specs.Slots.{cassettes}
 use Rattle.store.specs.Accept.{Accepted}
 use Rattle.store.specs.Marking.{noMarks, withMarks}
-use Rattle.store.proofs.Acceptance.{accepted-shaped, accepted-sound}
-use Rattle.store.proofs.MarkLaws.{Bytes}
-use Rattle.store.proofs.Once.{cassettes-bytes}
+use Rattle.store.proofs.Acceptance.{accepted-sound, accepted-bytes}
 use Rattle.reach.specs.Pairs.{frameFault, cassettesFault, Comparable}
 use Rattle.reach.proofs.Sets.{other-cassettes}
 use Rattle.rules.proofs.MarkSets.{counts-words, words-counts}
@@ -24,11 +22,6 @@ module _ (s t : Store) where
 
   pub frames-agree : s .m ≡ t .m → s .h ≡ t .h → frameFault s t ≡ 0
   frames-agree e f = simp (eq-eqb _ _ e, eq-eqb _ _ f)
-
--- the cassettes of an accepted store are bytes
-pub store-bytes : (s : Store) → Accepted s → Bytes (cassettes s)
-unfolding cassettes
-store-bytes s e = cassettes-bytes s (accepted-shaped s e .bytes) (s .m)
 
 -- an accepted store, with the words of the marks of its cassettes
 abbrev pub AcceptedMarks : Store → List ℕ → Type 0
@@ -45,6 +38,6 @@ module _ (s t : Store) (v w : List ℕ) (p : AcceptedMarks s v) (q : AcceptedMar
     goal = q .0;
     shafts = e;
     depth = f;
-    cassettes = words-counts v w _ _ (p .1) (q .1) d (store-bytes s (p .0)) (store-bytes t (q .0))
+    cassettes = words-counts v w _ _ (p .1) (q .1) d (accepted-bytes s (p .0)) (accepted-bytes t (q .0))
         (accepted-sound s (p .0) .once) (accepted-sound t (q .0) .once);
   }

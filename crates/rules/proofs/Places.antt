@@ -6,7 +6,7 @@ use native.Mathlib.Decide.{decLt}
 use native.Mathlib.Omega.{arith}
 use lib.ListN.{length, getD, length-reverseAux}
 use lib.Seq.{ext-getD}
-use Rattle.stacks.specs.Reading.{twoStackReading}
+use Rattle.stacks.specs.TwoStackReading.{twoStackReading}
 use Rattle.store.specs.declared.Store.{Store}
 use Rattle.store.specs.Slots.{height, slot, upward, downward, stack}
 use Rattle.store.proofs.Rows.{stack-length, same-rows, rows-same}

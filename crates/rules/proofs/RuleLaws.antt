@@ -7,7 +7,7 @@ use native.Mathlib.Nat.{suc-mul}
 use native.Mathlib.Omega.{arith}
 use lib.ListN.{length, length-append, length-reverse}
 use Rattle.stacks.specs.Count.{total}
-use Rattle.stacks.specs.Reading.{twoStackReading}
+use Rattle.stacks.specs.TwoStackReading.{twoStackReading}
 use Rattle.stacks.proofs.Counts.{same-length}
 use Rattle.store.specs.declared.Store.{Store}
 use Rattle.store.specs.Slots.{height, upward, downward, stack, cassettesBelow, cassettes, cassetteCount, emptyCount}

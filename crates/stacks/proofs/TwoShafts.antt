@@ -9,7 +9,7 @@ use lib.ListN.{length, take, drop, take-append-drop, length-drop, length-replica
 use lib.Seq.{length-take-le}
 use Rattle.stacks.specs.Run.{Stacks, Lift, Step, Run, done, step, Within, Reached}
 use Rattle.stacks.specs.Moves.{lift, shift}
-use Rattle.stacks.specs.Reading.{twoStackReading}
+use Rattle.stacks.specs.TwoStackReading.{twoStackReading}
 use Rattle.stacks.proofs.Shift.{shift-leads}
 
 -- With one shaft only the empty list is legal.

@@ -8,10 +8,12 @@ use native.Mathlib.Omega.{arith}
 use Rattle.store.specs.declared.Store.{Store}
 use Rattle.store.specs.Slots.{depth, height, cassettes, cassetteCount}
 use Rattle.store.specs.Accept.{given, inPlace, rowsFault, shaftsFault, storeFault, Accepted}
+use Rattle.store.specs.Marking.{noMarks, withMarks, markCount}
 use Rattle.store.specs.Sound.{Shaped, Sound}
 use Rattle.store.proofs.Faulted.{first-none, given-none, not-given}
 use Rattle.store.proofs.InPlace.{shafts-in-range, rows-in-range, in-place-shaped, shaped-in-place}
-use Rattle.store.proofs.Once.{walked-once, once-walks}
+use Rattle.store.proofs.MarkLaws.{Bytes}
+use Rattle.store.proofs.Once.{walked-once, once-walks, cassettes-bytes, marks-counted}
 use Rattle.store.proofs.Walk.{shaft-none, not-too-high, row-none, taken-cassette}
 
 module _ (s : Store) where
@@ -49,6 +51,14 @@ module _ (s : Store) where
       once = walked-once s (s .m) (none-met .1);
       few = none-met .2;
     }
+
+    -- its cassettes are bytes, and its marks are as many as its cassettes
+    pub accepted-bytes : Bytes (cassettes s)
+    unfolding cassettes
+    accepted-bytes = cassettes-bytes s (accepted-shaped .bytes) (s .m)
+
+    pub accepted-count : markCount (withMarks noMarks (cassettes s)) ≡ cassetteCount s
+    accepted-count = marks-counted s (accepted-shaped .bytes) (none-met .1)
 
   pub sound-accepted : Sound s → Accepted s
   unfolding storeFault cassettes

@@ -4,7 +4,7 @@ use Rattle.halyardgage.proofs.refused.Statement.{statement}
 use Rattle.halyardgage.proofs.refused.Tie as tie
 
 returns : tie.Need-returns
-returns c = search needs
+returns c = record { number = search needs; bytes = search needs }
 
 pub refused-spec : {M : Type 1} → statement M
 refused-spec = tie.close (tie.spec returns)

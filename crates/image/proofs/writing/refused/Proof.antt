@@ -4,7 +4,7 @@ use Rattle.image.proofs.writing.refused.Statement.{statement}
 use Rattle.image.proofs.writing.refused.Tie as tie
 
 returns : tie.Need-returns
-returns c = search needs
+returns c = record { is = search needs; bytes = search needs }
 
 pub refused-spec : {M : Type 1} → statement M
 refused-spec = tie.close (tie.spec returns)
