@@ -1,5 +1,5 @@
--- What the numbers of the calls say, back from the answer to the fact: the yes or no gives 0 exactly if the goal can be reached and 15 exactly if not; a
--- plan of number 0 has its list in the first bytes, and one of number 15 has none to give.
+-- What the numbers of the calls say, back from the answer to the fact: for images that are read and stores that can be compared the yes or no gives 0
+-- exactly if the goal can be reached and 15 exactly if not; a plan of number 0 has its list in the first bytes, and for one of number 15 there is none.
 use mathlib.Core.List.{List}
 use mathlib.Core.Logic.{_⊎_, inl, inr, ⊎-elim}
 use mathlib.Core.Path.{_≡_, sym, ap, _∙_, subst}

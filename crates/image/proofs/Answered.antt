@@ -1,4 +1,4 @@
--- No two answers of reading, and none of writing, have the same number: each is the only one with its own.
+-- No two answers of reading have the same number, and no two of writing: each is the only one with its own.
 use mathlib.Core.Bool.{cond}
 use mathlib.Core.Path.{_≡_, refl}
 use Prim.Native.Nat.{ℕ}

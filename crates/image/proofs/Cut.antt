@@ -4,7 +4,7 @@ use mathlib.Core.Path.{_≡_, refl, sym, ap, _∙_}
 use Prim.Native.Nat.{ℕ, zero, suc, _+_, _-_, _*_, _≤_, _<_}
 use native.Mathlib.Nat.{add-suc, add-zero}
 use native.Mathlib.Omega.{arith}
-use lib.ListN.{length, getD, take, set, replicate, length-append, length-replicate, length-set, List·getD-append}
+use lib.ListN.{length, getD, take, set, replicate, length-set, List·getD-append}
 use lib.Seq.{take-suc, take-all, take-take, take-append-le, take-set-le, length-take-le, set-at, append-snoc, getD-append-add, getD-take, getD-set-same}
 use Rattle.store.specs.declared.Store.{Store}
 use Rattle.store.specs.Slots.{upward}

@@ -2,23 +2,18 @@
 use borrow.Author.Tests.{not-true, not-false}
 use mathlib.Core.Bool.{Bool, true, false, not}
 use mathlib.Core.List.{List}
-use mathlib.Core.Path.{_≡_, sym, ap, _∙_}
+use mathlib.Core.Path.{_≡_, ap}
 use Prim.Native.Nat.{ℕ}
-use native.Mathlib.Omega.{arith}
 use Rattle.store.specs.declared.Store.{Store}
 use Rattle.reach.specs.Deciding.{Decides}
-use Rattle.reach.proofs.Deciding.{fails, decides-as}
+use Rattle.reach.proofs.Deciding.{fails, decides-as, decides-by}
 
 -- what a test of two lists says
 abbrev pub Tests : Bool → List ℕ → List ℕ → Type 0
 Tests r v w = (r ≡ true → v ≡ w) × (v ≡ w → r ≡ true)
 
 tests-decide : {r : Bool} (v w : List ℕ) → Tests r v w → Decides r (v ≡ w)
-tests-decide v w t =
-    record {
-      so = t .0;
-      not-so = λ f e. let z : _≡_ {A = Bool} true false = sym (t .1 e) ∙ f in let y : _≡_ {A = ℕ} 0 1 = cc in omega arith;
-    }
+tests-decide {r} v w t = decides-by r (t .0) (t .1)
 
 module _ (s t : Store) where
   pub shafts-differ : (s .m ≡ t .m → ⊥) → Decides false (s ≡ t)

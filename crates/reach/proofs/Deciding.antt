@@ -22,6 +22,15 @@ decides-as f g d = record { so = λ e. f (d .so e); not-so = λ e q. d .not-so e
 pub decides-by : (r : Bool) {P : Type 0} → (r ≡ true → P) → (P → r ≡ true) → Decides r P
 decides-by r f g = record { so = f; not-so = λ e p. true-false (sym (g p) ∙ e) }
 
+-- what the test says where P holds, and where it does not
+pub says-so : (r : Bool) {P : Type 0} → Decides r P → P → r ≡ true
+says-so true d p = refl
+says-so false d p = absurd (d .not-so refl p)
+
+pub says-not : (r : Bool) {P : Type 0} → Decides r P → (P → ⊥) → r ≡ false
+says-not true d n = absurd (n (d .so refl))
+says-not false d n = refl
+
 -- what is tested is so or not so
 pub decided : (r : Bool) {P : Type 0} → Decides r P → P ⊎ (P → ⊥)
 decided true d = inl (d .so refl)

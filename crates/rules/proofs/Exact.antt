@@ -1,6 +1,6 @@
 -- The promises on two stores are exact: no two values of an answer are right at once, the right one has document 01's number, and "yes" and "no" are
 -- given exactly where they are so.
-use mathlib.Core.Bool.{Bool, true, false, not, cond}
+use mathlib.Core.Bool.{true, false, not, cond}
 use mathlib.Core.Path.{_≡_, refl, sym, ap, _∙_, subst}
 use Prim.Native.Nat.{ℕ, _<_}
 use native.Mathlib.Omega.{arith}
@@ -15,13 +15,14 @@ use Rattle.store.proofs.Faulted.{first-stays}
 use Rattle.store.proofs.Numbered.{told, told-none, told-store}
 use Rattle.reach.specs.Pairs.{frameFault, cassettesFault, pairFault, Comparable}
 use Rattle.reach.specs.Tests.{ruleTest}
+use Rattle.reach.proofs.Deciding.{says-so, says-not}
 use Rattle.reach.proofs.RuleTests.{reachable-test}
 use Rattle.reach.proofs.Sets.{same-cassettes, comparable-faultless}
 use Rattle.rules.specs.declared.pairs.PairFault.{PairFault}
 use Rattle.rules.specs.declared.pairs.Pair.{Pair}
 use Rattle.rules.specs.declared.Reach.{Reach}
 use Rattle.rules.specs.Numbers.{pairFaultNumber, pairNumber, reachNumber}
-use Rattle.rules.specs.Promises.{Faulty, PairSays, yesOrNo, ReachSays}
+use Rattle.rules.specs.Promises.{PairSays, yesOrNo, ReachSays}
 use Rattle.rules.proofs.Faults.{frames-agree}
 
 store-number : (f : Fault) → (0 < faultNumber f) × (faultNumber f < 15)
@@ -81,18 +82,10 @@ module _ (s t : Store) where
   reachTold (Pair.Refused f) = Reach.Refused f
 
   pub test-true : Comparable s t → Reachable s t → ruleTest s t ≡ true
-  test-true p r = go (ruleTest s t) refl
-    where
-      go : (b : Bool) → ruleTest s t ≡ b → ruleTest s t ≡ true
-      go true e = e
-      go false e = absurd (reachable-test s t p .not-so e r)
+  test-true p = says-so (ruleTest s t) (reachable-test s t p)
 
   pub test-false : Comparable s t → (Reachable s t → ⊥) → ruleTest s t ≡ false
-  test-false p n = go (ruleTest s t) refl
-    where
-      go : (b : Bool) → ruleTest s t ≡ b → ruleTest s t ≡ false
-      go true e = absurd (n (reachable-test s t p .so e))
-      go false e = e
+  test-false p = says-not (ruleTest s t) (reachable-test s t p)
 
   reach-told : (r : Reach) → ReachSays s t r → reachTold pairTold ≡ r
   unfolding reachTold
