@@ -18,7 +18,7 @@ use Rattle.store.proofs.Refusals.{none-allowed}
 use Rattle.store.proofs.Replays.{replay-goes, replay-stops}
 use Rattle.reach.proofs.Agree.{occurrences-agree, total-agrees}
 use Rattle.reach.proofs.Reachability.{leads-occurrences, leads-total}
-use Rattle.planner.proofs.MakingKept.{leads-no-gap}
+use Rattle.reach.proofs.NoGap.{leads-no-gap}
 use Rattle.bits.specs.Fields.{byteCount}
 use Rattle.image.specs.Image.{imageLength}
 use Rattle.image.proofs.Lengths.{length-image}

@@ -1,4 +1,4 @@
-pub mod Backward
+pub mod Carrying
 pub mod Moved
 pub mod Stepping
 pub mod Writing

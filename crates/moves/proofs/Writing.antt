@@ -47,7 +47,7 @@ followed came at k l e n f h =
     f ∙ ap₂ (λ (c : List ℕ) (x : ℕ). written c x l) e n ∙ written-then came at k l (omega arith)
 
 -- a byte set is a list of one byte written
-set-written : (came : List ℕ) (at b : ℕ) → at < length came → set came at b ≡ written came at (b ∷ [])
+pub set-written : (came : List ℕ) (at b : ℕ) → at < length came → set came at b ≡ written came at (b ∷ [])
 unfolding written
 set-written came at b h = rw add-one (set-split came at b h)
 

@@ -3,10 +3,9 @@ use mathlib.Core.List.{List, [], _∷_, _++_}
 use mathlib.Core.Path.{_≡_, refl, sym, _∙_}
 use Prim.Native.Nat.{ℕ, _+_, _≤_, _<_}
 use native.Mathlib.Omega.{arith}
-use lib.ListN.{length, set, replicate, length-append, length-set, length-replicate}
-use Rattle.store.specs.Lists.{liftByte}
+use lib.ListN.{length, set, length-append, length-set}
 use Rattle.moves.specs.Written.{written}
-use Rattle.moves.proofs.Writing.{written-nothing, written-more, followed}
+use Rattle.moves.proofs.Writing.{written-nothing, written-more}
 
 -- The list l was written from `at` to at′, if there was room for it.
 pub record Wrote (came : List ℕ) (at : ℕ) (l : List ℕ) (at′ : ℕ) (out : List ℕ) : Type 0 where
@@ -25,22 +24,4 @@ wrote-more {came} {out} {l} {l′} {at} {at′} b p h n e =
       count = rw (← e, length-append) (omega arith);
       kept = length-set out at′ b ∙ p .kept;
       bytes = λ _. rw (p .bytes (omega arith), p .count, ← e) (written-more came at l b (omega arith));
-    }
-
--- what a call wrote
-pub wrote-by-call : {came : List ℕ} {at at′ k : ℕ} {l out : List ℕ} → length out ≡ length came → (at′ ≡ at + k) × (out ≡ written came at l) → length l ≡ k
-    → Wrote came at l at′ out
-wrote-by-call h e n = record { count = omega arith; kept = h; bytes = λ _. e .1 }
-
-pub wrote-shift : (from to k : ℕ) {came : List ℕ} {at at′ : ℕ} {out : List ℕ} → length out ≡ length came
-    → (at′ ≡ at + k) × (out ≡ written came at (replicate k (liftByte from to))) → Wrote came at (replicate k (liftByte from to)) at′ out
-wrote-shift from to k h e = wrote-by-call h e (length-replicate k (liftByte from to))
-
--- one list after another
-pub wrote-then : {came mid out : List ℕ} {at at′ at″ : ℕ} {k l : List ℕ} → Wrote came at k at′ mid → Wrote mid at′ l at″ out → Wrote came at (k ++ l) at″ out
-wrote-then {came = came} {at = at} {k = k} {l} p q =
-    record {
-      count = rw length-append (omega arith);
-      kept = q .kept ∙ p .kept;
-      bytes = λ h. followed came at k l (p .bytes (omega arith)) (p .count) (q .bytes (omega arith)) (omega arith);
     }

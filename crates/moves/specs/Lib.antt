@@ -1,1 +1,3 @@
+pub mod Carried
+pub mod Went
 pub mod Written

@@ -1,9 +1,9 @@
 // Plans cases of document 01, "Filled stores to try", that are not among the proved ones, and prints for each the number, the count of
 // lifts and whether a replay of the list ends at the goal. Held to the file stdout.
+use check::same;
 use libc::STDOUT_FILENO;
 use planner::make_list;
 use planner::number::plan_number;
-use planner::same::same_store;
 use rules::number::reach_number;
 use rules::reachable;
 use store::Store;
@@ -12,6 +12,24 @@ use store::number::end_number;
 fn say(what: &[u8], number: u64) {
     io::write_all(STDOUT_FILENO, what);
     io::print_decimal(STDOUT_FILENO, number);
+}
+
+// Whether two stores are the same.
+fn same_store(s: Store, t: Store) -> bool {
+    if s.m != t.m {
+        return false;
+    }
+    if s.h != t.h {
+        return false;
+    }
+    let a = s.heights;
+    let b = t.heights;
+    if !same(&a, &b) {
+        return false;
+    }
+    let c = s.slots;
+    let d = t.slots;
+    same(&c, &d)
 }
 
 fn empty(m: u8, h: u8) -> Store {

@@ -1,169 +1,152 @@
--- The parts of the method put together, for three shafts or more: the start reaches the cleared goal, so each part may be asked for, and the parts make a
--- list within the list space.
-use mathlib.Core.List.{List, [], _++_, map}
-use mathlib.Core.Path.{_≡_, sym, ap₂, _∙_}
-use Prim.Native.Nat.{ℕ, _+_, _-_, _*_, _≤_, _<_}
-use native.Mathlib.Nat.{add-mul, mul-le-mul-right}
+-- With three shafts or more: rounds can be played from the rows that agree, and they make a list within the list space, an empty one where start and goal
+-- are the same.
+use mathlib.Core.List.{List}
+use mathlib.Core.Path.{_≡_, sym, ap, _∙_, subst}
+use Prim.Native.Nat.{ℕ, _+_, _*_, _-_, _≤_, _<_}
+use native.Mathlib.Decide.{decLt}
 use native.Mathlib.Omega.{arith}
-use lib.ListN.{length, take, length-map, length-reverseAux}
-use lib.Seq.{length-take-le}
-use Rattle.stacks.proofs.Sums.{term-le-sum}
+use lib.ListN.{length}
+use Rattle.stacks.specs.Count.{sum, total}
+use Rattle.stacks.specs.Placing.{Onto}
+use Rattle.stacks.proofs.Sums.{sum-le, Less, some-positive}
+use Rattle.stacks.proofs.Counts.{same-total}
+use Rattle.stacks.proofs.Rounds.{within-bound}
+use Rattle.stacks.proofs.Floors.{filled-and-empty}
 use Rattle.store.specs.declared.Store.{Store}
-use Rattle.store.specs.Slots.{height, slot, cassetteCount, emptyCount, listSpace}
-use Rattle.store.specs.Lists.{turnedByte, backward, Leads}
+use Rattle.store.specs.Slots.{depth, height, stack, cassetteCount, emptyCount, listSpace}
 use Rattle.store.specs.Sound.{Shaped, Sound}
-use Rattle.store.proofs.Acceptance.{accepted-shaped, accepted-sound}
-use Rattle.store.proofs.Played.{leads-shaped, leads-frame, leads-then}
+use Rattle.store.proofs.Acceptance.{accepted-sound}
+use Rattle.store.proofs.Rows.{stack-length}
 use Rattle.reach.specs.Pairs.{Comparable}
 use Rattle.reach.specs.Rules.{floor, Rule}
-use Rattle.reach.proofs.Agree.{total-agrees}
-use Rattle.reach.proofs.Reachability.{leads-occurrences, leads-back, rule-reaches}
+use Rattle.reach.proofs.Agree.{total-agrees, empties-agree}
+use Rattle.reach.proofs.Reachability.{start-within, beyond, same-occurrences, start-floor, goal-floor, rule-floors}
 use Rattle.rules.proofs.RuleLaws.{count-most}
-use Rattle.moves.specs.Written.{written}
-use Rattle.moves.proofs.Stepping.{steps-bytes, steps-then, steps-length}
-use Rattle.heights.specs.declared.clear.Cleared.{Cleared}
-use Rattle.moves.specs.declared.Plan.{Plan}
-use Rattle.heights.specs.Parts.{OneFrame, heightSum, ClearedIs, LevelIs}
-use Rattle.places.specs.Parts.{RightBelow, Selecting, placeCost, SelectIs}
+use Rattle.moves.specs.Carried.{held}
+use Rattle.moves.specs.Written.{Steps}
+use Rattle.placing.specs.declared.Frame.{Frame}
+use Rattle.placing.specs.Frames.{storeOf, heightIn, Fits}
+use Rattle.placing.proofs.Bottoms.{shaped-fits, stack-onto}
+use Rattle.choices.specs.Choices.{rowsIn, AgreeingIs}
+use Rattle.turns.specs.Turning.{passedRows, OnTheWay}
+use Rattle.rounds.specs.Serving.{rowsLeft, ArrivedIs}
+use Rattle.turns.proofs.Way.{rows-in, passed-length}
 use Rattle.planner.specs.Promises.{MadeIs}
-use Rattle.heights.proofs.LevelLift.{total-heights, leads-one-frame, leads-heights, leads-floor}
-use Rattle.planner.proofs.MakingKept.{leads-no-gap, leads-right}
 
--- the cassettes are the heights together
-count-heights : (s : Store) → cassetteCount s ≡ heightSum s
-count-heights s = sym (total-agrees s) ∙ total-heights s (s .m)
+-- the frame of a store with e empty slots
+abbrev pub frameOf : Store → ℕ → Frame
+frameOf s e = record { m = s .m; h = s .h; e = e }
 
--- what selection may cost
-cost-space : (h r n : ℕ) → (4 * (h - r) + 4) * n ≤ 4 * h * n + 4 * n
-cost-space h r n =
-    let a : 4 * (h - r) + 4 ≤ 4 * h + 4 = omega arith in
-    rw (add-mul (4 * h) 4 n) at (mul-le-mul-right n a)
+-- the empty slots, counted
+pub count-fits : (s : Store) (n : ℕ) → Shaped s → n ≡ cassetteCount s → ((s .m ≤ 16) × (s .h ≤ 16)) × (n ≤ s .m * s .h)
+count-fits s n h c = ((h .shafts, h .rows), rw c (count-most s h))
 
-backward-length : (n : ℕ) (l : List ℕ) → n ≤ length l → length (backward (take n l)) ≡ n
-backward-length n l h =
-    omega (arith, length-reverseAux (map turnedByte (take n l)) [], length-map (take n l) turnedByte, length-take-le n l h)
+pub empty-counted : (s : Store) (n e : ℕ) → n ≡ cassetteCount s → e ≡ s .m * s .h - n → e ≡ s .m * s .h - cassetteCount s
+empty-counted s n e c f = f ∙ rw c
 
--- The start s reaches the goal t cleared to its floor, and the clearing played backward leads from there to the goal.
-pub record Aimed (s t : Store) (rows : ℕ) (c : Cleared) : Type 0 where
-  pub sound : Sound s
-  pub three : 2 < s .m
-  pub lifts : List ℕ
-  pub reached : Leads s lifts (c .store)
-  pub floor-rows : rows ≡ floor (c .store) 0
-  pub at-rows : height (c .store) 0 ≡ rows
-  pub back : Leads (c .store) (backward (take (c .count) (c .lifts))) t
-  pub sized : length (backward (take (c .count) (c .lifts))) ≡ c .count
-  pub small : c .count ≤ 16
-  pub few : c .count ≤ heightSum (c .store)
+module _ (s t : Store) (p : Comparable s t) (e : ℕ) (empty : e ≡ s .m * s .h - cassetteCount s) where
+  start : Sound s
+  start = accepted-sound s (p .start)
 
-module _ (s t : Store) (p : Comparable s t) (r : Rule s t) where
-  same-count : cassetteCount s ≡ cassetteCount t
-  same-count =
-      count-heights s ∙ sym (leads-heights (rule-reaches s t p r .leads) (accepted-shaped s (p .start))) ∙ sym (count-heights t)
+  goal : Sound t
+  goal = accepted-sound t (p .goal)
 
-  -- the floor of the goal, counted as the code counts it
-  module _ (n m h : ℕ) (a : n ≡ cassetteCount s) (b : m ≡ t .m) (c : h ≡ t .h) where
-    pub count-fits : ((m ≤ 16) × (h ≤ 16)) × (n ≤ m * h)
-    count-fits =
-        let q = accepted-shaped t (p .goal) in
-        ((omega arith, omega arith), rw (a, b, c, same-count) (count-most t q))
+  -- the goal in the frame of the start
+  framed : storeOf (frameOf s e) (t .heights) (t .slots) ≡ t
+  framed = λ i. record { m = p .shafts i; h = p .depth i; heights = t .heights; slots = t .slots }
 
-    pub rows-floor : (k : ℕ) → k ≡ h - (m * h - n) → k ≡ floor t 0
+  pub fits-both : Fits (frameOf s e) (s .heights) × Fits (frameOf s e) (t .heights)
+  fits-both = (
+    shaped-fits (frameOf s e) (s .heights) (s .slots) (start .shaped),
+    shaped-fits (frameOf s e) (t .heights) (t .slots) (rw framed (goal .shaped)),
+  )
+
+  all-slots : total (s .m) (stack s) + e ≡ sum (s .m) (depth s)
+  unfolding emptyCount
+  all-slots = rw empty (rw (empties-agree s) at (filled-and-empty (s .m) (depth s) (stack s) (start-within s t p)))
+
+  module _ (done : List ℕ) (a : AgreeingIs (frameOf s e) (s .heights) (s .slots) (t .heights) (t .slots) done) where
+    -- the floors agree, so they are passed
+    floor-passed : 3 ≤ s .m → Rule s t → (x : ℕ) → x < s .m → floor s x ≤ heightIn done x
+    floor-passed three r x u =
+        a .longest x (floor s x) u (start-floor s t p x u) (goal-floor s t p x u)
+        (sym (rows-in s x (floor s x)) ∙ rule-floors s t p three r x u ∙ rows-in t x (floor s x))
+
+    floor-held : 3 ≤ s .m → Rule s t → (x : ℕ) → x < s .m → s .h ≤ e + heightIn done x
     unfolding floor emptyCount
-    rows-floor k d = d ∙ rw (a, b, c, same-count)
+    floor-held three r x u = omega (arith, floor-passed three r x u)
 
-  pub aimed : {rows : ℕ} {c : Cleared} → 2 < s .m → rows ≡ floor t 0 → length (c .lifts) ≡ 16 → ClearedIs t 0 rows c → Aimed s t rows c
-  aimed {c = c} i e f k =
-      let l = rule-reaches s t p r in
-      let q = accepted-shaped t (p .goal) in
-      record {
-        sound = accepted-sound s (p .start);
-        three = i;
-        lifts = l .lifts ++ take (c .count) (c .lifts);
-        reached = leads-then (l .leads) (k .leads);
-        floor-rows = e ∙ sym (leads-floor (k .leads) q 0);
-        at-rows = k .at-rows;
-        back = leads-back q (k .leads);
-        sized = backward-length (c .count) (c .lifts) (omega (arith, k .few));
-        small = k .few;
-        few = omega (arith, k .count, leads-heights (k .leads) q, term-le-sum (t .m) (height t) 0 (omega (arith, p .shafts)));
-      }
+    rows-now : (x : ℕ) → Onto (passedRows (t .slots) done x) (stack s x)
+    rows-now x = rw (rows-in s x (heightIn done x), a .same x) at (stack-onto s x (heightIn done x) (a .now x))
 
-module _ {s t : Store} {rows : ℕ} {c : Cleared} (a : Aimed s t rows c) where
-  start : Shaped s
-  start = a .sound .shaped
+    rows-goal : (x : ℕ) → Onto (passedRows (t .slots) done x) (stack t x)
+    rows-goal x = rw (rows-in t x (heightIn done x)) at (stack-onto t x (heightIn done x) (a .goal x))
 
-  frame : OneFrame s (c .store)
-  frame =
-      record {
-        first = start;
-        second = leads-shaped start (a .reached);
-        shafts = sym (leads-frame (a .reached) .0);
-        rows = sym (leads-frame (a .reached) .1);
-      }
+    way-first : 2 < s .m → Rule s t → OnTheWay (frameOf s e) (t .heights) (t .slots) done (s .heights) (s .slots)
+    way-first three r = record {
+      held = record { shaped = start .shaped; all = all-slots };
+      goal-shaped = rw framed (goal .shaped);
+      three = three;
+      some-row = λ x u. start .some-row;
+      sized = a .sized;
+      within = a .goal;
+      halfway = rw framed (record {
+        passed = record {
+          onto = rows-now;
+          floor = λ x u. omega (arith, floor-held three r x u, passed-length (t .slots) done x);
+          within = start-within s t p;
+          all = all-slots;
+        };
+        goal = rows-goal;
+        counts = same-occurrences s t p;
+        beyond = beyond s t p;
+      });
+    }
 
-  sums : heightSum s ≡ heightSum (c .store)
-  sums = sym (leads-heights (a .reached) start)
+    -- no more rows are left than there are cassettes, and none where start and goal are the same
+    left-few : rowsLeft (frameOf s e) (t .heights) done ≤ cassetteCount s
+    unfolding rowsLeft total
+    left-few =
+        omega (
+          arith,
+          sum-le (s .m) (λ x. heightIn (t .heights) x - heightIn done x) (λ x. length (stack t x)) (λ x _. omega (arith, stack-length t x)),
+          same-cassettes,
+        )
+      where
+        same-cassettes : sum (s .m) (λ x. length (stack t x)) ≡ cassetteCount s
+        same-cassettes = sym (same-total (s .m) (stack s) (stack t) (same-occurrences s t p)) ∙ total-agrees s
 
-  -- levelling, selection and the clearing fit the list space
-  costs : heightSum s + placeCost (c .store) 0 * heightSum (c .store) + c .count ≤ listSpace s
-  unfolding listSpace
-  costs =
-      let e : 4 * s .h * cassetteCount s ≡ 4 * c .store .h * heightSum (c .store)
-      = ap₂ (λ (x y : ℕ). 4 * x * y) (frame .rows) (count-heights s ∙ sums) in
-      omega (arith, cost-space (c .store .h) (height (c .store) 0) (heightSum (c .store)), count-heights s, sums, a .few)
+    left-none : s ≡ t → rowsLeft (frameOf s e) (t .heights) done ≡ 0
+    unfolding rowsLeft
+    left-none eq =
+        elim (decLt 0 (sum (s .m) (λ x. heightIn (t .heights) x - heightIn done x))) [
+          | yes h ↦ absurd (go (some-positive (s .m) (λ x. heightIn (t .heights) x - heightIn done x) h))
+          | no h ↦ omega arith
+        ]
+      where
+        go : Less (s .m) (s .m) (λ x. 0) (λ x. heightIn (t .heights) x - heightIn done x) → ⊥
+        go b =
+            let x : ℕ = b .place in
+            let same : height t x ≡ height s x = ap (λ (u : Store). height u x) (sym eq) in
+            omega (
+              arith,
+              b .less,
+              a .longest x (height s x) (b .below) (omega arith) (omega arith) (ap (λ (u : Store). rowsIn (u .slots) x (height s x)) eq),
+            )
 
-  pub level-ready : (n : ℕ) → listSpace s ≤ n → OneFrame s (c .store) × ((heightSum s ≡ heightSum (c .store)) × (0 + heightSum s ≤ n))
-  level-ready n h = (frame, (sums, omega (arith, costs)))
+    space-most : rowsLeft (frameOf s e) (t .heights) done * (4 * s .h + 8) ≤ listSpace s
+    unfolding listSpace
+    space-most = within-bound (cassetteCount s) (rowsLeft (frameOf s e) (t .heights) done) (s .h) left-few
 
-  -- the heights were matched, in a list space that was lent
-  module _ {q : Plan} {came out : List ℕ} (v : LevelIs (record { store = s; count = 0 }) (c .store) came q out) (h : listSpace s ≤ length came) where
-    levelled-length : length out ≡ length came
-    levelled-length = steps-length (v .steps) (omega (arith, v .count, costs))
+    pub play-ready : (came : List ℕ) → 2 < s .m → Rule s t → listSpace s ≤ length came
+        → OnTheWay (frameOf s e) (t .heights) (t .slots) done (s .heights) (s .slots) × (rowsLeft (frameOf s e) (t .heights) done * (4 * s .h + 8) ≤ length came)
+    play-ready came three r h = (way-first three r, omega (arith, space-most))
 
-    levelled : Shaped (q .store)
-    levelled = leads-shaped start (v .steps .leads)
-
-    -- the store reached leads to the cleared goal, by way of the start
-    onward : Leads (q .store) (backward (v .steps .lifts) ++ a .lifts) (c .store)
-    onward = leads-then (leads-back start (v .steps .leads)) (a .reached)
-
-    selecting : Selecting (q .store) (c .store) 0
-    unfolding slot
-    selecting =
-        let f = leads-frame (v .steps .leads) in
-        record {
-          frame = leads-one-frame (v .steps .leads) frame;
-          three = omega (arith, a .three);
-          some-row = omega (arith, a .sound .some-row);
-          workspace = omega (arith, a .three);
-          level = v .level;
-          counts = leads-occurrences levelled onward;
-          no-gap = leads-no-gap start (a .reached) (a .sound .no-gap);
-        }
-
-    pub select-ready : Selecting (q .store) (c .store) 0
-        × ((height (c .store) 0 ≡ rows)
-        × (RightBelow (16 * rows) (q .store) (c .store) × (q .count + placeCost (c .store) 0 * heightSum (c .store) ≤ length out)))
-    select-ready = (
-      selecting,
-      (a .at-rows, (leads-right levelled onward rows (a .floor-rows ∙ leads-floor onward levelled 0), omega (arith, v .count, costs, levelled-length))),
-    )
-
-    -- the places were put right
-    module _ {u : Plan} {out′ : List ℕ} (w : SelectIs q (c .store) 0 out u out′) where
-      all-fit : u .count + c .count ≤ listSpace s
-      all-fit = omega (arith, v .count, w .few, costs)
-
-      pub back-ready : (c .count ≤ 16) × (u .count + c .count ≤ length out′)
-      back-ready =
-          (a .small, omega (arith, all-fit, levelled-length, steps-length (w .steps) (omega (arith, all-fit, levelled-length))))
-
-      pub made : {at : ℕ} {out″ : List ℕ} → (at ≡ u .count + c .count) × (out″ ≡ written out′ (u .count) (backward (take (c .count) (c .lifts))))
-          → MadeIs s t came at out″
-      made z =
-          record {
-            steps = steps-then (steps-then (v .steps) (w .steps) (omega (arith, all-fit))) (steps-bytes (a .back) (a .sized) z)
-                (omega (arith, all-fit, z .0));
-            short = omega (arith, all-fit, z .0);
-          }
+    pub made : {came done′ heights′ slots′ out : List ℕ} {count : ℕ}
+        → ArrivedIs (frameOf s e) (t .heights) (t .slots) done (s .heights) (s .slots) came done′ heights′ slots′ count out
+        → MadeIs s t came count out
+    made {came} {out = out} {count} r = record {
+      steps = subst (λ (u : Store). Steps s 0 came u count out) framed (r .steps);
+      short = omega (arith, r .few, space-most);
+      nothing = λ eq. omega (arith, r .few, ap (λ (j : ℕ). j * (4 * s .h + 8)) (left-none eq));
+    }

@@ -1,6 +1,6 @@
 -- The answers of the list maker by what was found: refused by the pair, refused for space, unreachable, and a list.
 use mathlib.Core.List.{List}
-use mathlib.Core.Path.{_≡_, refl, _∙_, subst}
+use mathlib.Core.Path.{_≡_, refl, _∙_}
 use Prim.Native.Nat.{ℕ, _+_, _*_, _≤_}
 use native.Mathlib.Omega.{arith}
 use lib.ListN.{length}
@@ -10,8 +10,6 @@ use Rattle.store.proofs.Acceptance.{accepted-sound}
 use Rattle.reach.specs.Pairs.{Comparable}
 use Rattle.reach.specs.Rules.{Rule}
 use Rattle.reach.proofs.Reachability.{reachable-rule}
-use Rattle.moves.specs.Written.{Steps}
-use Rattle.moves.proofs.Stepping.{steps-none}
 use Rattle.planner.specs.declared.PlanAnswer.{PlanAnswer}
 use Rattle.planner.specs.declared.Planned.{Planned}
 use Rattle.planner.specs.Promises.{PlanSays, PlanLeaves, Untouched, RefusedPlan, MadeIs, PlanIs}
@@ -36,9 +34,8 @@ module _ (s t : Store) (came : List ℕ) where
 
   -- a list, which is empty where there is nothing to do
   module _ (p : Comparable s t) (h : listSpace s ≤ length came) where
-    listed-as : (k : ℕ) (out : List ℕ) (r : Planned) → r ≡ record { answer = PlanAnswer.Listed; count = k } → MadeIs s t came k out → (s ≡ t → k ≡ 0)
-        → PlanIs s t came out r
-    listed-as k out r e l n =
+    pub listed-made : {k : ℕ} {out : List ℕ} (r : Planned) → r ≡ record { answer = PlanAnswer.Listed; count = k } → MadeIs s t came k out → PlanIs s t came out r
+    listed-made {k} {out} r e l =
         let w = l .steps in
         rw e (record {
           answer = (p, (h, record { lifts = w .lifts; leads = w .leads }));
@@ -48,15 +45,6 @@ module _ (s t : Store) (came : List ℕ) where
             count = omega (arith, w .count);
             short = omega (arith, w .count, l .short);
             bytes = w .bytes;
-            nothing = n;
+            nothing = l .nothing;
           };
         })
-
-    pub listed-nothing : (r : Planned) → r ≡ record { answer = PlanAnswer.Listed; count = 0 } → s ≡ t → PlanIs s t came came r
-    listed-nothing r e q =
-        let w : Steps s 0 came t 0 came = subst (λ (u : Store). Steps s 0 came u 0 came) q (steps-none s 0 came) in
-        listed-as 0 came r e (record { steps = w; short = omega arith }) (λ _. refl)
-
-    pub listed-made : {k : ℕ} {out : List ℕ} (r : Planned) → r ≡ record { answer = PlanAnswer.Listed; count = k } → (s ≡ t → ⊥) → MadeIs s t came k out
-        → PlanIs s t came out r
-    listed-made {k} {out} r e n l = listed-as k out r e l (λ q. absurd (n q))

@@ -60,22 +60,29 @@ module _ (s t : Store) (p : Comparable s t) (few : s .m ≤ 2) where
 
   module _ (k : ℕ) {came out : List ℕ} {n : ℕ} (r : Rule s t) where
     -- its bytes at the start of the lent space are a list made
-    shift-made : (a b : ℕ) → Leads s (replicate k (liftByte a b)) t → k ≤ listSpace s
+    shift-made : (a b : ℕ) → (s ≡ t → k ≡ 0) → Leads s (replicate k (liftByte a b)) t → k ≤ listSpace s
         → (n ≡ 0 + k) × (out ≡ written came 0 (replicate k (liftByte a b))) → MadeIs s t came n out
-    shift-made a b l h w = record { steps = steps-bytes l (length-replicate k (liftByte a b)) w; short = omega arith }
+    shift-made a b none l h w =
+        record { steps = steps-bytes l (length-replicate k (liftByte a b)) w; short = omega arith; nothing = λ e. omega (arith, none e) }
 
     -- with k more in shaft 0 at the start, k lifts from 0 to 1
     pub made-down : height s 0 ≡ k + height t 0 → (n ≡ 0 + k) × (out ≡ written came 0 (replicate k (liftByte 0 1))) → MadeIs s t came n out
     made-down more =
-        shift-made 0 1
-        (shift-leads k 0 1 (λ e. omega (arith, ap (λ (u : Store). height u 0) e))
+        shift-made 0 1 none-down
+        (shift-leads k 0 1 none-down
         (λ e q. two-shift k (goal-within e) (outside e) q (omega (arith, stack-length s 0, stack-length t 0))) r)
         (omega (arith, heights-fit))
+      where
+        none-down : s ≡ t → k ≡ 0
+        none-down e = omega (arith, ap (λ (u : Store). height u 0) e)
 
     -- with k more there at the end, k lifts from 1 to 0
     pub made-up : height t 0 ≡ k + height s 0 → (n ≡ 0 + k) × (out ≡ written came 0 (replicate k (liftByte 1 0))) → MadeIs s t came n out
     made-up more =
-        shift-made 1 0
-        (shift-leads k 1 0 (λ e. omega (arith, ap (λ (u : Store). height u 0) e))
+        shift-made 1 0 none-up
+        (shift-leads k 1 0 none-up
         (λ e q. two-unshift k (goal-within e) (outside e) q (omega (arith, stack-length s 0, stack-length t 0))) r)
         (omega (arith, heights-fit))
+      where
+        none-up : s ≡ t → k ≡ 0
+        none-up e = omega (arith, ap (λ (u : Store). height u 0) e)

@@ -51,7 +51,9 @@ pub record RefusedPlan (a : PlanAnswer) (came out : List ℕ) (r : Planned) : Ty
   pub is : r ≡ record { answer = a; count = 0 }
   pub bytes : out ≡ came
 
--- A list was made: it leads from start to goal within the list space, stands in the first bytes, and its length is the count.
+-- A list was made: it leads from start to goal within the list space, stands in the first bytes, and its length is the count; it is empty where start and
+-- goal are the same.
 pub record MadeIs (s t : Store) (came : List ℕ) (count : ℕ) (out : List ℕ) : Type 0 where
   pub steps : Steps s 0 came t count out
   pub short : count ≤ listSpace s
+  pub nothing : s ≡ t → count ≡ 0

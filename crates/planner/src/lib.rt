@@ -1,14 +1,12 @@
 // The list maker (document 01, "Which goals can be reached", "Which comes first"): a list of lifts that leads from start to goal.
 pub mod make;
 pub mod number;
-pub mod same;
 
 use make::make;
 use rules::pairs::Pair;
 use rules::pairs::PairFault;
 use rules::pairs::compare;
 use rules::rule::rule_holds;
-use same::same_store;
 use store::Store;
 use store::wide;
 ghost use mathlib.Core.Path.{_≡_};
@@ -68,9 +66,6 @@ pub fn make_list(start: Store, goal: Store, out: &mut [u8]) -> Planned
     }
     if !rule_holds(start, goal, n) {
         return refused(PlanAnswer::Unreachable, out);
-    }
-    if same_store(start, goal) {
-        return listed(0);
     }
     let count = make(start, goal, n, out);
     listed(count)

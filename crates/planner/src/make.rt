@@ -1,11 +1,10 @@
 // The list made, for two stores that can be compared and a goal that can be reached.
-use heights::clear::clear;
-use heights::level::level;
-use moves::Plan;
-use moves::put_backward;
+use choices::agree::agreeing;
 use moves::put_shift;
-use places::select::select;
-use rules::rule::floor_rows;
+use placing::Frame;
+use rounds::all::play_all;
+use rules::rule::empty_slots;
+use store::Shaft;
 use store::Store;
 use store::wide;
 ghost use mathlib.Core.Path.{_≡_};
@@ -26,12 +25,32 @@ fn make_two(start: Store, goal: Store, out: &mut [u8]) -> usize
     let a = wide(start.heights[0]);
     let b = wide(goal.heights[0]);
     if b <= a {
-        return put_shift(out, 0, 0, 1, a - b);
+        return put_shift(out, 0, Shaft(0), Shaft(1), a - b);
     }
-    put_shift(out, 0, 1, 0, b - a)
+    put_shift(out, 0, Shaft(1), Shaft(0), b - a)
 }
 
-// With three shafts or more: the goal is cleared, the heights matched, the places put right, and the clearing played backward.
+// The slot of a place.
+fn shown(slots: &[u8; 256], p: u8) -> u8 {
+    slots[p as usize]
+}
+
+// Where each number stands: 16 places for each of m shafts. No promise rests on it.
+fn hints_of(m: u8, slots: &[u8; 256]) -> [u8; 256]
+    requires { ⌜ m ≤ 16 ⌝ }
+{
+    let mut hints: [u8; 256] = [0; 256];
+    let mut p: usize = 0;
+    let end = 16 * (m as usize);
+    while p < end {
+        let v = shown(slots, p as u8) as usize;
+        hints[v] = p as u8;
+        p += 1;
+    }
+    hints
+}
+
+// With three shafts or more: rounds of direct placement, from the rows that agree already.
 fn make_three(start: Store, goal: Store, n: usize, out: &mut [u8]) -> usize
     requires { ⌜ Comparable start goal ⌝ }
     requires { ⌜ (2 < start .m) × Rule start goal ⌝ }
@@ -39,20 +58,29 @@ fn make_three(start: Store, goal: Store, n: usize, out: &mut [u8]) -> usize
     requires { ⌜ listSpace start ≤ length (now out) ⌝ }
     ensures { λ r. ⌜ MadeIs start goal (now (out .entry)) r (now (out .exit)) ⌝ }
 {
-    let rows = floor_rows(wide(goal.m), wide(goal.h), n);
-    let cleared = clear(goal, 0, rows);
-    let g = cleared.store;
-    let lifts = cleared.lifts;
-    let back = cleared.count;
-    let begun = Plan {
-        store: start,
-        count: 0,
-    };
-    let levelled = level(begun, g, out);
-    let selected = select(levelled, g, 0, rows, out);
-    put_backward(out, selected.count, lifts, back)
+    let m = start.m;
+    let h = start.h;
+    let e = empty_slots(m as usize, h as usize, n);
+    let f = Frame { m, h, e };
+    let tops = goal.heights;
+    let aims = goal.slots;
+    let mut heights = start.heights;
+    let mut slots = start.slots;
+    let mut done = agreeing(f, heights, &slots, tops, &aims);
+    let mut hints = hints_of(m, &slots);
+    play_all(
+        f,
+        tops,
+        &aims,
+        &mut done,
+        &mut heights,
+        &mut slots,
+        &mut hints,
+        out,
+    )
 }
 
+// The list, by the number of shafts.
 pub fn make(start: Store, goal: Store, n: usize, out: &mut [u8]) -> usize
     requires { ⌜ Comparable start goal ⌝ }
     requires { ⌜ Rule start goal ⌝ }

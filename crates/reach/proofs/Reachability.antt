@@ -13,9 +13,9 @@ use Rattle.stacks.proofs.Stores.{reached-within}
 use Rattle.stacks.proofs.Kept.{occurrences-kept, total-kept}
 use Rattle.stacks.proofs.Floors.{room, floors-kept}
 use Rattle.stacks.proofs.TwoShafts.{one-shaft, reading-kept, two-reached}
-use Rattle.stacks.proofs.ThreeShafts.{three-reached}
+use Rattle.stacks.proofs.Rounds.{reached-by-rounds}
 use Rattle.store.specs.declared.Store.{Store}
-use Rattle.store.specs.Slots.{depth, height, stack, listSpace}
+use Rattle.store.specs.Slots.{depth, height, downward, stack, listSpace}
 use Rattle.store.specs.Sound.{Shaped, Sound}
 use Rattle.store.specs.Lists.{liftOf, liftBytes, turnedByte, backward, Leads, ended, Reachable}
 use Rattle.store.proofs.Acceptance.{accepted-sound}
@@ -24,7 +24,7 @@ use Rattle.store.proofs.Rows.{stack-length}
 use Rattle.store.proofs.Views.{same-stacks}
 use Rattle.reach.specs.Pairs.{Comparable}
 use Rattle.reach.specs.Rules.{twoShaftReading, floor, SameFloors, RuleFor, Rule}
-use Rattle.reach.proofs.Agree.{shaped-within, reading-agrees, occurrences-agree, total-agrees, floor-agrees, none-beyond, rows-agree}
+use Rattle.reach.proofs.Agree.{shaped-within, reading-agrees, occurrences-agree, total-agrees, floor-agrees, none-beyond, lowest-rows, rows-agree}
 
 -- the lowest cassettes of each shaft, as many as the empty slots leave of its depth, are the same
 abbrev pub SameLowest : Store → Store → Type 0
@@ -71,16 +71,16 @@ module _ (s t : Store) (p : Comparable s t) where
   goal : Sound t
   goal = accepted-sound t (p .goal)
 
-  start-within : Within (s .m) (depth s) (stack s)
+  pub start-within : Within (s .m) (depth s) (stack s)
   start-within = shaped-within s (start .shaped)
 
   goal-within : Within (s .m) (depth s) (stack t)
   goal-within = rw (p .shafts, p .depth) (shaped-within t (goal .shaped))
 
-  beyond : (x : ℕ) → s .m ≤ x → stack s x ≡ stack t x
+  pub beyond : (x : ℕ) → s .m ≤ x → stack s x ≡ stack t x
   beyond x h = none-beyond s (start .shaped) x h ∙ sym (none-beyond t (goal .shaped) x (rw (p .shafts) at h))
 
-  same-occurrences : (c : ℕ) → occurrences (s .m) c (stack s) ≡ occurrences (s .m) c (stack t)
+  pub same-occurrences : (c : ℕ) → occurrences (s .m) c (stack s) ≡ occurrences (s .m) c (stack t)
   same-occurrences c = occurrences-agree s c ∙ p .cassettes c ∙ rw (p .shafts) (sym (occurrences-agree t c))
 
   same-empties : empties (s .m) (depth s) (stack s) ≡ empties (s .m) (depth s) (stack t)
@@ -88,10 +88,10 @@ module _ (s t : Store) (p : Comparable s t) where
   same-empties = rw (same-total (s .m) (stack s) (stack t) same-occurrences)
 
   -- the floor of the start is filled in both stores
-  start-floor : (x : ℕ) → x < s .m → floor s x ≤ height s x
+  pub start-floor : (x : ℕ) → x < s .m → floor s x ≤ height s x
   start-floor x h = rw (← floor-agrees s x, ← stack-length s x) (room (s .m) (depth s) (stack s) start-within x h)
 
-  goal-floor : (x : ℕ) → x < s .m → floor s x ≤ height t x
+  pub goal-floor : (x : ℕ) → x < s .m → floor s x ≤ height t x
   goal-floor x h = rw (← floor-agrees s x, ← stack-length t x, same-empties) (room (s .m) (depth s) (stack t) goal-within x h)
 
   -- the floors agree exactly if the lowest cassettes of the stacks do
@@ -100,6 +100,17 @@ module _ (s t : Store) (p : Comparable s t) where
     λ r x h. rw (floor-agrees s x) (rows-agree s t x (floor s x) (start-floor x h) (goal-floor x h) .0 (r x h)),
     λ r x h. rows-agree s t x (floor s x) (start-floor x h) (goal-floor x h) .1 (rw (floor-agrees s x) at (r x h)),
   )
+
+  -- three shafts or more that obey the rule have the same floors, read downward
+  pub rule-floors : 3 ≤ s .m → Rule s t → (x : ℕ) → x < s .m → downward s x (floor s x) ≡ downward t x (floor s x)
+  rule-floors h r x i =
+      sym (lowest-rows s x (floor s x) (start-floor x i)) ∙ rw (floor-agrees s x) at (floors-agree .0 (go (s .m) refl r) x i) ∙ lowest-rows t x (floor s x) (goal-floor x i)
+    where
+      go : (m : ℕ) → s .m ≡ m → RuleFor m s t → SameFloors s t
+      go zero e q = absurd (omega arith)
+      go (suc zero) e q = absurd (omega arith)
+      go (suc (suc zero)) e q = absurd (omega arith)
+      go (suc (suc (suc k))) e q = q
 
   -- a run of the stacks within the bound is a list within the list space
   short-list : Reached (s .m) (depth s) (stack s) (stack t) (listSpace s) → ShortList s t
@@ -121,8 +132,8 @@ module _ (s t : Store) (p : Comparable s t) where
   unfolding listSpace
   more-shafts h r =
       rw (total-agrees s) at
-      (three-reached (s .m) (depth s) 0 (s .h) h (omega arith) (λ x i. omega arith) (λ x i. start .some-row) (omega arith)
-      (stack s) (stack t) start-within goal-within beyond same-occurrences (floors-agree .0 r))
+      (reached-by-rounds (s .m) (depth s) (s .h) h (λ x i. start .some-row) (λ x i. omega arith) (stack s) (stack t) start-within goal-within beyond same-occurrences
+      (floors-agree .0 r))
 
   -- what can be reached
   pub rule-reaches : Rule s t → ShortList s t

@@ -70,13 +70,22 @@ fn same_floors(s: Store, t: Store, m: usize, k: usize) -> bool
     true
 }
 
+// How many slots are empty.
+pub fn empty_slots(m: usize, h: usize, n: usize) -> usize
+    requires { ⌜ (m ≤ 16) × (h ≤ 16) ⌝ }
+    requires { ⌜ n ≤ m * h ⌝ }
+    ensures { λ r. ⌜ r ≡ m * h - n ⌝ }
+{
+    m * h - n
+}
+
 // How many rows of each shaft never change: h − e, or none.
-pub fn floor_rows(m: usize, h: usize, n: usize) -> usize
+fn floor_rows(m: usize, h: usize, n: usize) -> usize
     requires { ⌜ (m ≤ 16) × (h ≤ 16) ⌝ }
     requires { ⌜ n ≤ m * h ⌝ }
     ensures { λ r. ⌜ r ≡ h - (m * h - n) ⌝ }
 {
-    let e = m * h - n;
+    let e = empty_slots(m, h, n);
     if e < h { h - e } else { 0 }
 }
 

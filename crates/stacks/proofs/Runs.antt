@@ -1,9 +1,9 @@
 -- Legal lists compose, keep every stack within its depth, and lead back when they are turned about.
-use mathlib.Core.Path.{_≡_, ap, sym}
+use mathlib.Core.Path.{ap, sym}
 use mathlib.Core.List.{List, [], _++_, map, reverseAux}
 use Prim.Native.Nat.{ℕ}
 use native.Mathlib.Omega.{arith}
-use lib.ListN.{length, length-map, length-reverseAux}
+use lib.ListN.{length}
 use Rattle.stacks.specs.Run.{Stacks, Lift, turned, Step, Run, done, step, Within}
 use Rattle.stacks.proofs.Sums.{everywhere}
 
@@ -40,10 +40,6 @@ step-back {l = l} h s =
 -- the list turned about: its last lift first, and each lift turned
 abbrev pub back : List Lift → List Lift
 back ls = reverseAux (map turned ls) []
-
--- It has as many lifts as the list.
-pub length-back : (ls : List Lift) → length (back ls) ≡ length ls
-length-back ls = simp (length-reverseAux, length-map) (omega arith)
 
 -- A legal list turned about leads back.
 pub run-back : {m : ℕ} {d : ℕ → ℕ} {S T : Stacks} {ls : List Lift} → Within m d S → Run m d S ls T → Run m d T (back ls) S

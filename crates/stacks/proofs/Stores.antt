@@ -1,4 +1,4 @@
--- Changing one shaft of a store or two, one lift made on a store, and legal lists of bounded length put one after the other or turned about.
+-- Changing one shaft of a store or two, one lift made on a store, and legal lists of bounded length put one after the other.
 use mathlib.Core.Path.{_≡_, refl, _∙_}
 use mathlib.Core.Logic.{_≢_}
 use mathlib.Core.List.{List, [], _∷_, _++_}
@@ -8,9 +8,9 @@ use native.Mathlib.Omega.{arith}
 use borrow.Author.Tests.{eq-eqb, ne-eqb}
 use lib.Dec.{eqb}
 use lib.ListN.{length, length-append}
-use Rattle.stacks.specs.Run.{Stacks, Lift, Step, done, step, Within, Reached}
+use Rattle.stacks.specs.Run.{Stacks, Lift, Step, done, step, Reached}
 use Rattle.stacks.specs.Moves.{lift}
-use Rattle.stacks.proofs.Runs.{run-append, back, run-back, length-back}
+use Rattle.stacks.proofs.Runs.{run-append}
 
 -- The store with the stack v in shaft a.
 pub put : Stacks → ℕ → List ℕ → Stacks
@@ -90,7 +90,3 @@ reached-then p q = record {
 -- A bound may be raised.
 pub reached-within : {m : ℕ} {d : ℕ → ℕ} {S T : Stacks} {k l : ℕ} → k ≤ l → Reached m d S T k → Reached m d S T l
 reached-within h p = record { lifts = p .lifts; runs = p .runs; short = omega arith }
-
--- A list that leads there leads back.
-pub reached-back : {m : ℕ} {d : ℕ → ℕ} {S T : Stacks} {k : ℕ} → Within m d S → Reached m d S T k → Reached m d T S k
-reached-back h r = record { lifts = back (r .lifts); runs = run-back h (r .runs); short = rw (length-back (r .lifts)) (r .short) }

@@ -1,6 +1,6 @@
 -- One shaft has no legal lift. With two shafts every legal list keeps the reading, and one shift leads from a store to any store that reads the
 -- same.
-use mathlib.Core.Path.{_≡_, refl, ap, sym, _∙_}
+use mathlib.Core.Path.{_≡_, refl, ap, sym, _∙_, subst, fun-ext}
 use mathlib.Core.List.{List, [], _∷_, _++_, reverseAux, reverseAux-append, reverseAux-reverseAux-nil}
 use Prim.Native.Nat.{ℕ, zero, suc, _+_, _-_, _<_, _≤_}
 use native.Mathlib.Decide.{decLe}
@@ -10,7 +10,8 @@ use lib.Seq.{length-take-le}
 use Rattle.stacks.specs.Run.{Stacks, Lift, Step, Run, done, step, Within, Reached}
 use Rattle.stacks.specs.Moves.{lift, shift}
 use Rattle.stacks.specs.TwoStackReading.{twoStackReading}
-use Rattle.stacks.proofs.Shift.{shift-leads}
+use Rattle.stacks.proofs.Sums.{everywhere}
+use Rattle.stacks.proofs.Stores.{put-two, put-two-first, put-two-second, put-two-other}
 
 -- With one shaft only the empty list is legal.
 pub one-shaft-empty : {d : ℕ → ℕ} {S T : Stacks} {ls : List Lift} → Run 1 d S ls T → ls ≡ []
@@ -46,6 +47,28 @@ same-parts (x ∷ u) v (y ∷ r) s n e = consed (same-parts u (x ∷ v) r (y ∷
   where
     consed : (u ≡ r) × (x ∷ v ≡ y ∷ s) → (x ∷ u ≡ y ∷ r) × (v ≡ s)
     consed p = (cc, cc)
+
+-- A shift leads to any stacks in which the cassettes xs, the top of a, stand turned over on b.
+shift-leads : {m a b : ℕ} {d : ℕ → ℕ} {S T : Stacks} → (a ≡ b → ⊥) → a < m → b < m → (xs : List ℕ) → S a ≡ xs ++ T a → T b ≡ reverseAux xs (S b)
+    → length (T b) ≤ d b → ((i : ℕ) → (i ≡ a → ⊥) → (i ≡ b → ⊥) → T i ≡ S i) → Run m d S (shift (length xs) a b) T
+shift-leads {m} {a} {b} {d} {S} {T} n ha hb [] ea eb h kept =
+    subst (Run m d S []) (fun-ext (everywhere _ a ea (everywhere _ b (λ _. sym eb) (λ i nb na. sym (kept i na nb))))) done
+shift-leads {a = a} {b} {S = S} {T} n ha hb (x ∷ xs) ea eb h kept =
+    let ua = put-two-first S a (xs ++ T a) b (x ∷ S b) n in
+    let ub = put-two-second S a (xs ++ T a) b (x ∷ S b) in
+    let others = put-two-other S a (xs ++ T a) b (x ∷ S b) in
+    step {S = S} {T = put-two S a (xs ++ T a) b (x ∷ S b)} {l = lift a b}
+    (record {
+      differ = n;
+      left-below = ha;
+      entered-below = hb;
+      cassette = x;
+      taken = ea ∙ ap (λ (l : List ℕ). x ∷ l) (sym ua);
+      placed = ub;
+      room = omega (arith, simp length-reverseAux at (ap length eb));
+      kept = others;
+    })
+    (shift-leads n ha hb xs ua (rw ub eb) h (λ i na nb. kept i na nb ∙ sym (others i na nb)))
 
 -- Where a and b read the same in S and in T, a has k more in S, and the other shafts are the same, k lifts from a to b lead from S to T.
 pub shift-along : {m a b : ℕ} {d : ℕ → ℕ} {S T : Stacks} (k : ℕ) → (a ≡ b → ⊥) → a < m → b < m → length (S a) ≡ k + length (T a)

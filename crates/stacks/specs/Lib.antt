@@ -1,5 +1,5 @@
 pub mod Count
 pub mod Moves
+pub mod Placing
 pub mod Run
-pub mod Swap
 pub mod TwoStackReading

@@ -19,12 +19,16 @@ pub record Lift : Type 0 where
 abbrev pub turned : Lift → Lift
 turned l = record { left = l .entered; entered = l .left }
 
+-- The shafts that lifts may use, of m. (Sums over the shafts, and `Within`, run over all m.)
+abbrev pub Usable : ℕ → ℕ → Type 0
+Usable m x = x < m
+
 -- One legal lift of m shafts with depths d leads from S to T: the top of the shaft left now stands on the shaft entered, which had room, and every
 -- other shaft is as it was.
 pub record Step (m : ℕ) (d : ℕ → ℕ) (l : Lift) (S T : Stacks) : Type 0 where
   pub differ : l .left ≡ l .entered → ⊥
-  pub left-below : l .left < m
-  pub entered-below : l .entered < m
+  pub left-below : Usable m (l .left)
+  pub entered-below : Usable m (l .entered)
   pub cassette : ℕ
   pub taken : S (l .left) ≡ cassette ∷ T (l .left)
   pub placed : T (l .entered) ≡ cassette ∷ S (l .entered)

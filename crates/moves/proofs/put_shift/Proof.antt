@@ -22,7 +22,7 @@ returns : tie.Need-returns
 returns c =
     let d = c .before .before in
     let a = d .before .before .before .before .args in
-    let e : d .before .pack .result ≡ liftByte (a .from) (a .to) = omega (arith, d .before .pack .ensures) in
+    let e : d .before .pack .result ≡ liftByte (a .from .0) (a .to .0) = omega (arith, d .before .pack .ensures) in
     (d .put-many .ensures .0, d .put-many .ensures .1 ∙ ap (λ (b : ℕ). written (a .out .now) (a .at) (replicate (a .k) b)) e)
 
 pub put-shift-spec : {M : Type 1} → statement M

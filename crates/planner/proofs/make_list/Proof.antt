@@ -8,7 +8,7 @@ use lib.ListN.{length}
 use Rattle.store.specs.Slots.{cassetteCount, listSpace}
 use Rattle.reach.specs.Pairs.{Comparable}
 use Rattle.rules.proofs.Answers.{comparable-by, count-by, faulty-by}
-use Rattle.planner.proofs.PlanAnswers.{counted-few, space-counted, refused-as, not-by-rule, listed-nothing, listed-made}
+use Rattle.planner.proofs.PlanAnswers.{counted-few, space-counted, refused-as, not-by-rule, listed-made}
 use Rattle.planner.proofs.make_list.Statement.{statement}
 use Rattle.planner.proofs.make_list.Tie as tie
 
@@ -94,36 +94,24 @@ returns-3 c =
     refused-as (a .start) (a .goal) (a .out .now) _ (r .refused3 .ensures)
     (not-by-rule (a .start) (a .goal) (a .out .now) (both d) (enough e) (w .before .rule-holds .ensures .not-so (not-true _ (w .if2 .taken)))) (λ u. u)
 
-same-store-requires : tie.Need-same-store-requires
-same-store-requires c κs = search needs
-
-listed-requires : tie.Need-listed-requires
-listed-requires c κs = search needs
-
-returns-4 : tie.Need-returns-4
-returns-4 c =
-    let e = c .before .before .before .before .before in
-    listed-nothing _ _ _ (both (e .before .before .before)) (enough e) _ (c .listed .ensures) (c .before .before .same-store .ensures .so (c .before .if3 .taken))
-
 make-requires : tie.Need-make-requires
 make-requires c κs =
-    let r = c .before .before .before in
+    let r = c .before in
     let e = r .before .before in
     let d = e .before .before .before in
     (both d, (r .before .rule-holds .ensures .so (not-false _ (r .if2 .left)), (counted d, enough e)))
 
-listed-requires-2 : tie.Need-listed-requires-2
-listed-requires-2 c κs = search needs
+listed-requires : tie.Need-listed-requires
+listed-requires c κs = search needs
 
 same-length-4 : tie.Need-same-length-4
 same-length-4 c = search needs
 
-returns-5 : tie.Need-returns-5
-returns-5 c =
+returns-4 : tie.Need-returns-4
+returns-4 c =
     let m = c .before .before .before in
-    let n = m .before .before in
-    let e = n .before .before .before .before in
-    listed-made _ _ _ (both (e .before .before .before)) (enough e) _ (c .listed2 .ensures) (n .before .same-store .ensures .not-so (n .if3 .left)) (m .make .ensures)
+    let e = m .before .before .before .before in
+    listed-made _ _ _ (both (e .before .before .before)) (enough e) _ (c .listed .ensures) (m .make .ensures)
 
 pub make-list-spec : {M : Type 1} → statement M
 make-list-spec =
@@ -144,10 +132,7 @@ make-list-spec =
     refused-requires-3
     same-length-3
     returns-3
-    same-store-requires
-    listed-requires
-    returns-4
     make-requires
-    listed-requires-2
+    listed-requires
     same-length-4
-    returns-5)
+    returns-4)

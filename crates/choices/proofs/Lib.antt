@@ -1,0 +1,3 @@
+pub mod AgreeLaws
+pub mod FindLaws
+pub mod RoundLaws

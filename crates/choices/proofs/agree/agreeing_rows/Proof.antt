@@ -1,0 +1,75 @@
+-- `agreeing_rows` meets its contract.
+use borrow.Author.Count.{below-none, below-more}
+use Prim.Native.Nat.{_-_, _≤_}
+use native.Mathlib.Omega.{arith}
+use Rattle.choices.proofs.AgreeLaws.{SameBelow, agree-stopped, agree-all}
+use borrow.Author.Needs.{needs}
+use Rattle.choices.proofs.agree.agreeing_rows.Statement.{statement}
+use Rattle.choices.proofs.agree.agreeing_rows.Tie as tie
+
+abbrev Inv-loop : tie.InvT-loop
+Inv-loop slots goal-slots most i k₀ k = (k ≤ most) × SameBelow slots goal-slots i k
+
+abbrev μ-loop : tie.MeasureT-loop
+μ-loop slots goal-slots most i k₀ k = most - k
+
+cast-i : tie.Need-cast-i Inv-loop μ-loop
+cast-i c = search needs
+
+loop-holds : tie.Need-loop-holds Inv-loop μ-loop
+loop-holds c = (search needs, below-none _)
+
+mul-p : tie.Need-mul-p Inv-loop μ-loop
+mul-p c = search needs
+
+cast-p : tie.Need-cast-p Inv-loop μ-loop
+cast-p c = search needs
+
+add-p : tie.Need-add-p Inv-loop μ-loop
+add-p c = search needs
+
+element-copy-out-if1 : tie.Need-element-copy-out-if1 Inv-loop μ-loop
+element-copy-out-if1 c = search needs
+
+element-copy-out-if1-2 : tie.Need-element-copy-out-if1-2 Inv-loop μ-loop
+element-copy-out-if1-2 c = search needs
+
+returns : tie.Need-returns Inv-loop μ-loop
+returns c =
+    let l = c .before .before .before .before in
+    let a = l .before .before .args in
+    agree-stopped (a .slots .now) (a .goal .now) (a .x .0) (a .most) (l .loop .k) (omega arith) (l .loop .inv .1) (c .if1 .taken)
+
+add-k : tie.Need-add-k Inv-loop μ-loop
+add-k c = search needs
+
+loop-less : tie.Need-loop-less Inv-loop μ-loop
+loop-less c = search needs
+
+loop-again : tie.Need-loop-again Inv-loop μ-loop
+loop-again c = (search needs, below-more _ _ (c .before .before .before .before .loop .inv .1) (c .if1 .left))
+
+returns-2 : tie.Need-returns-2 Inv-loop μ-loop
+returns-2 c =
+    let l = c .before in
+    let a = l .before .before .args in
+    agree-all (a .slots .now) (a .goal .now) (a .x .0) (a .most) (l .loop .k) (l .loop .inv .0) (omega arith) (l .loop .inv .1)
+
+pub agreeing-rows-spec : {M : Type 1} → statement M
+agreeing-rows-spec =
+    tie.close
+    (tie.spec
+    Inv-loop
+    μ-loop
+    cast-i
+    loop-holds
+    mul-p
+    cast-p
+    add-p
+    element-copy-out-if1
+    element-copy-out-if1-2
+    returns
+    add-k
+    loop-less
+    loop-again
+    returns-2)

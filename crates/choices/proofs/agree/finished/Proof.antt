@@ -1,0 +1,58 @@
+-- `finished` meets its contract.
+use borrow.Author.Count.{below-none, below-more}
+use Prim.Native.Nat.{ℕ, _-_, _≤_, _<_}
+use native.Mathlib.Omega.{arith}
+use Rattle.reach.proofs.Deciding.{holds, fails}
+use Rattle.placing.specs.Frames.{heightIn}
+use borrow.Author.Needs.{needs}
+use Rattle.choices.proofs.agree.finished.Statement.{statement}
+use Rattle.choices.proofs.agree.finished.Tie as tie
+
+abbrev Inv-loop : tie.InvT-loop
+Inv-loop done tops x₀ m x = (x ≤ m) × ((y : ℕ) → y < x → heightIn tops y ≤ heightIn done y)
+
+abbrev μ-loop : tie.MeasureT-loop
+μ-loop done tops x₀ m x = m - x
+
+cast-m : tie.Need-cast-m Inv-loop μ-loop
+cast-m c = search needs
+
+loop-holds : tie.Need-loop-holds Inv-loop μ-loop
+loop-holds c = (search needs, below-none _)
+
+element-copy-out-if1 : tie.Need-element-copy-out-if1 Inv-loop μ-loop
+element-copy-out-if1 c = search needs
+
+array-read-if1 : tie.Need-array-read-if1 Inv-loop μ-loop
+array-read-if1 c = search needs
+
+returns : tie.Need-returns Inv-loop μ-loop
+returns c = fails λ e. omega (arith, c .if1 .taken, e (c .before .before .before .loop .x) (omega (arith, c .before .before .loop-test .taken)))
+
+add-x : tie.Need-add-x Inv-loop μ-loop
+add-x c = search needs
+
+loop-less : tie.Need-loop-less Inv-loop μ-loop
+loop-less c = search needs
+
+loop-again : tie.Need-loop-again Inv-loop μ-loop
+loop-again c = (search needs, below-more _ _ (c .before .before .before .loop .inv .1) (omega (arith, c .if1 .left)))
+
+returns-2 : tie.Need-returns-2 Inv-loop μ-loop
+returns-2 c = holds λ y u. c .before .loop .inv .1 y (omega (arith, u))
+
+pub finished-spec : {M : Type 1} → statement M
+finished-spec =
+    tie.close
+    (tie.spec
+    Inv-loop
+    μ-loop
+    cast-m
+    loop-holds
+    element-copy-out-if1
+    array-read-if1
+    returns
+    add-x
+    loop-less
+    loop-again
+    returns-2)

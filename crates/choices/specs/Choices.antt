@@ -1,0 +1,66 @@
+-- What the search and the choice of a round promise.
+use mathlib.Core.List.{List, []}
+use mathlib.Core.Path.{_≡_}
+use Prim.Native.Nat.{ℕ, suc, _≤_, _<_}
+use lib.ListN.{length}
+use Rattle.stacks.specs.Run.{Usable}
+use Rattle.store.specs.Slots.{slot, downward}
+use Rattle.placing.specs.declared.Frame.{Frame}
+use Rattle.placing.specs.Frames.{heightIn}
+use Rattle.moves.specs.Carried.{held}
+use Rattle.choices.specs.declared.Round.{Round}
+use Rattle.choices.specs.declared.find.Found.{Found}
+
+-- rows 1 to k of shaft x, read downward, of a list of slots
+abbrev pub rowsIn : List ℕ → ℕ → ℕ → List ℕ
+rowsIn slots x k = downward (held 0 0 [] slots) x k
+
+-- the first r rows of x agree, and no more of those up to `most`
+pub record AgreeIs (slots goal : List ℕ) (x most r : ℕ) : Type 0 where
+  pub within : r ≤ most
+  pub same : rowsIn slots x r ≡ rowsIn goal x r
+  pub longest : (k : ℕ) → k ≤ most → rowsIn slots x k ≡ rowsIn goal x k → k ≤ r
+
+-- that for every shaft, of the rows that both stores have
+pub record AgreeingIs (f : Frame) (heights slots goal-heights goal-slots done : List ℕ) : Type 0 where
+  pub sized : length done ≡ 16
+  pub now : (x : ℕ) → heightIn done x ≤ heightIn heights x
+  pub goal : (x : ℕ) → heightIn done x ≤ heightIn goal-heights x
+  pub same : (x : ℕ) → rowsIn slots x (heightIn done x) ≡ rowsIn goal-slots x (heightIn done x)
+  pub longest : (x k : ℕ) → Usable (f .m) x → k ≤ heightIn heights x → k ≤ heightIn goal-heights x → rowsIn slots x k ≡ rowsIn goal-slots x k → k ≤ heightIn done x
+
+-- every row of the goal is passed
+abbrev pub Finished : Frame → List ℕ → List ℕ → Type 0
+Finished f goal-heights done = (x : ℕ) → Usable (f .m) x → heightIn goal-heights x ≤ heightIn done x
+
+-- v stands in row y of shaft x, above the rows that are passed
+pub record Stands (f : Frame) (heights slots done : List ℕ) (v x y : ℕ) : Type 0 where
+  pub usable : Usable (f .m) x
+  pub unpassed : heightIn done x < y
+  pub standing : y ≤ heightIn heights x
+  pub shows : slot (held 0 0 [] slots) x y ≡ v
+
+-- not nowhere
+abbrev pub Somewhere : Frame → List ℕ → List ℕ → List ℕ → ℕ → Type 0
+Somewhere f heights slots done v = ((x y : ℕ) → Stands f heights slots done v x y → ⊥) → ⊥
+
+-- a place where v stands, or it stands nowhere
+abbrev pub FoundIs : Frame → List ℕ → List ℕ → List ℕ → ℕ → Found → Type 0
+FoundIs f heights slots done v (Found.At s) = Stands f heights slots done v (s .shaft .0) (s .row .0)
+FoundIs f heights slots done v Found.Nowhere = (x y : ℕ) → Stands f heights slots done v x y → ⊥
+
+-- the cassette that the goal has above the rows of shaft x that are passed
+abbrev pub wantedIn : List ℕ → List ℕ → ℕ → ℕ
+wantedIn goal done x = slot (held 0 0 [] goal) x (suc (heightIn done x))
+
+-- shaft `to` of the goal is not passed, and the cassette of its next row stands at `from`
+pub record RoundFor (f : Frame) (goal-heights goal-slots done heights slots : List ℕ) (r : Round) : Type 0 where
+  pub usable : Usable (f .m) (r .to .0)
+  pub wanted : heightIn done (r .to .0) < heightIn goal-heights (r .to .0)
+  pub found : Stands f heights slots done (wantedIn goal-slots done (r .to .0)) (r .from .shaft .0) (r .from .row .0)
+
+-- rounds are left, and each of them can be played
+pub record SomeRound (f : Frame) (goal-heights goal-slots done heights slots : List ℕ) : Type 0 where
+  pub left : Finished f goal-heights done → ⊥
+  pub somewhere : (x : ℕ) → Usable (f .m) x → heightIn done x < heightIn goal-heights x
+      → Somewhere f heights slots done (wantedIn goal-slots done x)

@@ -1,0 +1,86 @@
+-- Laws of one lift made in place: it is a legal lift of the store, one more of the list.
+use mathlib.Core.List.{List, [], _∷_}
+use mathlib.Core.Path.{_≡_, refl, ap, ap₂, _∙_}
+use Prim.Native.Nat.{ℕ, _+_, _-_, _*_, _%_, _≤_, _<_}
+use native.Mathlib.Omega.{arith}
+use lib.ListN.{length, getD, set, length-set}
+use Rattle.stacks.specs.Run.{Step, done, step}
+use Rattle.stacks.specs.Moves.{lift}
+use Rattle.store.specs.declared.Store.{Store}
+use Rattle.store.specs.Slots.{depth, stack}
+use Rattle.store.specs.Sound.{Shaped}
+use Rattle.store.specs.Lifts.{Allowed, lifted}
+use Rattle.store.specs.Lists.{liftByte}
+use Rattle.store.proofs.Lifting.{built-is}
+use Rattle.store.proofs.Played.{run-leads}
+use Rattle.store.proofs.Views.{lifted-shaped, lift-step}
+use Rattle.moves.specs.Carried.{held, CanCarry, CarriedIs}
+use Rattle.moves.specs.Went.{Went}
+use Rattle.moves.proofs.Stepping.{steps-none, steps-then}
+use Rattle.moves.proofs.Writing.{set-written}
+
+-- what the code has done is the lift
+pub carried : (heights slots came : List ℕ) (a b count c : ℕ) → CanCarry heights slots a b → c ≡ liftByte (a % 16) (b % 16)
+    → CarriedIs heights slots a b count came (set (set heights a (getD heights a 0 - 1)) b (getD heights b 0 + 1))
+    (set (set slots (16 * a + (getD heights a 0 - 1)) 0) (16 * b + getD heights b 0) (getD slots (16 * a + (getD heights a 0 - 1)) 0)) (count + 1) (set came count c)
+carried heights slots came a b count c q e =
+    let i : a % 16 ≡ a = omega (arith, q .left-below) in
+    let j : b % 16 ≡ b = omega (arith, q .entered-below) in
+    record {
+      store = λ m h. built-is (held m h heights slots) a b (getD heights a 0) (getD heights b 0) (q .taken) refl refl;
+      end = refl;
+      byte = ap (set came count) (e ∙ ap₂ liftByte i j);
+    }
+
+-- an allowed lift of a store that is held so can be made in place
+pub can-carry : (m h : ℕ) (heights slots : List ℕ) (a b : ℕ) → Shaped (held m h heights slots) → Allowed (held m h heights slots) a b → CanCarry heights slots a b
+can-carry m h heights slots a b s q =
+    record {
+      left-below = omega (arith, q .left-below, s .shafts);
+      entered-below = omega (arith, q .entered-below, s .shafts);
+      differ = q .differ;
+      taken = q .taken;
+      taken-row = omega (arith, s .heights a, s .rows);
+      room = omega (arith, q .room, s .rows);
+      bytes = s .bytes;
+    }
+
+pub went-none : (s : Store) (at : ℕ) (came : List ℕ) → Shaped s → Went s at came 0 s at came
+went-none s at came h = record { steps = steps-none s at came; shaped = h; room = refl; few = omega arith }
+
+pub went-within : {s t : Store} {at at′ k n : ℕ} {came out : List ℕ} → k ≤ n → Went s at came k t at′ out → Went s at came n t at′ out
+went-within f w = record { steps = w .steps; shaped = w .shaped; room = w .room; few = omega (arith, w .few) }
+
+pub went-then : {s t u : Store} {at at′ at″ k n : ℕ} {came mid out : List ℕ} → Went s at came k t at′ mid → Went t at′ mid n u at″ out → at + (k + n) ≤ length came
+    → Went s at came (k + n) u at″ out
+went-then v w f = record {
+  steps = steps-then (v .steps) (w .steps) (omega (arith, v .few, w .few));
+  shaped = w .shaped;
+  room = w .room ∙ v .room;
+  few = omega (arith, v .few, w .few);
+}
+
+-- One lift made in place.
+pub record CarriedOn (s : Store) (a b at : ℕ) (came : List ℕ) (t : Store) (at′ : ℕ) (out : List ℕ) : Type 0 where
+  pub went : Went s at came 1 t at′ out
+  pub moved : Step (s .m) (depth s) (lift a b) (stack s) (stack t)
+
+pub carried-on : (m h : ℕ) {heights slots came heights′ slots′ out : List ℕ} {a b at at′ : ℕ} → Shaped (held m h heights slots) → Allowed (held m h heights slots) a b
+    → at < length came → CarriedIs heights slots a b at came heights′ slots′ at′ out → CarriedOn (held m h heights slots) a b at came (held m h heights′ slots′) at′ out
+unfolding lifted
+carried-on m h {heights} {slots} {came} {a = a} {b} {at} p q f c =
+    rw (c .store m h, c .end, c .byte)
+    (record {
+      went = record {
+        steps = record {
+          lifts = liftByte a b ∷ [];
+          leads = run-leads p (lifted-shaped (held m h heights slots) a b p q) refl refl (step (lift-step (held m h heights slots) a b p q) done);
+          count = refl;
+          bytes = set-written came at (liftByte a b) f;
+        };
+        shaped = lifted-shaped (held m h heights slots) a b p q;
+        room = length-set came at (liftByte a b);
+        few = omega arith;
+      };
+      moved = lift-step (held m h heights slots) a b p q;
+    })

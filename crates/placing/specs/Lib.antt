@@ -1,0 +1,4 @@
+pub mod Frames
+pub mod Left
+pub mod Placed
+pub mod Rooms

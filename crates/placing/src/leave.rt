@@ -1,0 +1,54 @@
+// A cassette taken out of its own shaft.
+use crate::Frame;
+use crate::Spot;
+use crate::rooms::aside;
+use moves::carry;
+use store::Row;
+use store::Shaft;
+ghost use mathlib.Core.Path.{_≡_};
+ghost use Prim.Native.Nat.{_+_, _-_, _≤_};
+ghost use lib.ListN.{length};
+ghost use Rattle.placing.specs.Frames.{heightIn, Held};
+ghost use Rattle.placing.specs.Left.{CanLeave, LeftIs};
+
+// Where the cassette stands now, and the end of the list.
+pub struct Off {
+    pub at: Spot,
+    pub count: usize,
+}
+
+// Lifts what covers the cassette at `from`, and then the cassette, to other shafts.
+pub fn leave(
+    f: Frame,
+    heights: &mut [u8; 16],
+    slots: &mut [u8; 256],
+    hints: &mut [u8; 256],
+    from: Spot,
+    count: usize,
+    out: &mut [u8],
+) -> Off
+    requires { ⌜ Held f (now heights) (now slots) ⌝ }
+    requires { ⌜ CanLeave f (now heights) (from .shaft .0) (from .row .0) ⌝ }
+    requires { ⌜ count + (heightIn (now heights) (from .shaft .0) + 1 - from .row .0) ≤ length (now out) ⌝ }
+    ensures { λ r. ⌜ LeftIs f (now (heights .entry)) (now (slots .entry)) (from .shaft .0) (from .row .0) count (now (out .entry)) (now (heights .exit)) (now (slots .exit)) r (now (out .exit)) ⌝ }
+{
+    let b = from.shaft;
+    let i = b.0 as usize;
+    let mut n = count;
+    let mut start = Shaft(0);
+    while from.row.0 < heights[i] {
+        let c = aside(f, heights, b, b, start);
+        n = carry(heights, slots, hints, b, c, n, out);
+        start = c;
+    }
+    let shaft = aside(f, heights, b, b, start);
+    let high = heights[shaft.0 as usize];
+    let end = carry(heights, slots, hints, b, shaft, n, out);
+    Off {
+        at: Spot {
+            shaft,
+            row: Row(high + 1),
+        },
+        count: end,
+    }
+}

@@ -1,0 +1,91 @@
+// Where there is room.
+use crate::Frame;
+use store::Shaft;
+ghost use mathlib.Core.Path.{_≡_};
+ghost use Prim.Native.Nat.{_+_};
+ghost use lib.Dec.{ltb};
+ghost use Rattle.stacks.specs.Run.{Usable};
+ghost use Rattle.stacks.specs.Placing.{Outside};
+ghost use Rattle.reach.specs.Deciding.{Decides};
+ghost use Rattle.placing.specs.Frames.{depthIn, heightIn, Fits};
+ghost use Rattle.placing.specs.Rooms.{OutsideIs, SomeOutside};
+
+// A shaft that was looked for.
+pub enum Search {
+    At(Shaft),
+    Nowhere,
+}
+
+// "all of depth h"
+pub fn depth(f: Frame, x: Shaft) -> u8
+    ensures { λ r. ⌜ r ≡ depthIn f (x .0) ⌝ }
+{
+    f.h
+}
+
+// Whether lifts may use a shaft.
+pub fn usable(f: Frame, x: Shaft) -> bool
+    ensures { λ r. ⌜ r ≡ ltb (x .0) (f .m) ⌝ }
+{
+    x.0 < f.m
+}
+
+// The room of a shaft.
+pub fn room(f: Frame, heights: &[u8; 16], x: Shaft) -> usize
+    requires { ⌜ Fits f (now heights) ⌝ }
+    requires { ⌜ Usable (f .m) (x .0) ⌝ }
+    ensures { λ r. ⌜ r + heightIn (now (heights .entry)) (x .0) ≡ depthIn f (x .0) ⌝ }
+{
+    let d = depth(f, x);
+    let i = x.0 as usize;
+    (d - heights[i]) as usize
+}
+
+// Whether c has room and is another than a and b.
+pub fn is_outside(f: Frame, heights: &[u8; 16], a: Shaft, b: Shaft, c: Shaft) -> bool
+    requires { ⌜ Fits f (now heights) ⌝ }
+    ensures { λ r. ⌜ Decides r (Outside (f .m) (depthIn f) (a .0) (b .0) (heightIn (now (heights .entry))) (c .0)) ⌝ }
+{
+    if !usable(f, c) {
+        return false;
+    }
+    if c.0 == a.0 {
+        return false;
+    }
+    if c.0 == b.0 {
+        return false;
+    }
+    let d = depth(f, c);
+    let i = c.0 as usize;
+    heights[i] < d
+}
+
+// The first shaft from `start` on that has room and is another than a and b.
+pub fn outside_from(f: Frame, heights: &[u8; 16], a: Shaft, b: Shaft, start: Shaft) -> Search
+    requires { ⌜ Fits f (now heights) ⌝ }
+    ensures { λ r. ⌜ OutsideIs f (now (heights .entry)) (a .0) (b .0) (start .0) r ⌝ }
+{
+    let mut x = start.0;
+    while x < f.m {
+        if is_outside(f, heights, a, b, Shaft(x)) {
+            return Search::At(Shaft(x));
+        }
+        x += 1;
+    }
+    Search::Nowhere
+}
+
+// A shaft that has room and is another than a and b, where there is one: the first from `start` on, or else the first. Any start will do.
+pub fn aside(f: Frame, heights: &[u8; 16], a: Shaft, b: Shaft, start: Shaft) -> Shaft
+    requires { ⌜ Fits f (now heights) ⌝ }
+    requires { ⌜ SomeOutside f (now heights) (a .0) (b .0) ⌝ }
+    ensures { λ r. ⌜ Outside (f .m) (depthIn f) (a .0) (b .0) (heightIn (now (heights .entry))) (r .0) ⌝ }
+{
+    if let Search::At(c) = outside_from(f, heights, a, b, start) {
+        return c;
+    }
+    if let Search::At(c) = outside_from(f, heights, a, b, Shaft(0)) {
+        return c;
+    }
+    a
+}

@@ -1,0 +1,4 @@
+pub mod Arriving
+pub mod Bringing
+pub mod Playing
+pub mod Servings

@@ -1,0 +1,28 @@
+-- `bring` meets its contract.
+use borrow.Author.Needs.{needs}
+use Rattle.rounds.proofs.Bringing.{room-ready, place-ready, served}
+use Rattle.rounds.proofs.serve.bring.Statement.{statement}
+use Rattle.rounds.proofs.serve.bring.Tie as tie
+
+make-room-requires : tie.Need-make-room-requires
+make-room-requires c κs = let t = c .before .before .before .before .before .before in room-ready (t .args .count) (t .args .out .now) (t .pre .1) (t .pre .0)
+
+place-requires : tie.Need-place-requires
+place-requires c κs = let t = c .before .before .before .before .before .before .before .before .before .before .before .before .before in place-ready (t .args .count) (t .args .out .now) (t .pre .1) (c .before .before .before .before .before .before .make-room .ensures)
+
+cast-i : tie.Need-cast-i
+cast-i c = search needs
+
+element-write-done : tie.Need-element-write-done
+element-write-done c = search needs
+
+same-length : tie.Need-same-length
+same-length c = search needs
+
+returns : tie.Need-returns
+returns c = let t = c .before .before .before .before .before .before .before .before .before .before .before .before .before .before .before .before .before in served (t .args .count) (t .args .out .now) (t .pre .1) (c .before .before .before .before .before .before .before .before .before .before .make-room .ensures) (c .before .before .before .place .ensures)
+
+pub bring-spec : {M : Type 1} → statement M
+bring-spec =
+    tie.close
+    (tie.spec make-room-requires place-requires cast-i element-write-done same-length returns)

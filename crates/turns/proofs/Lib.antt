@@ -1,0 +1,3 @@
+pub mod OneLift
+pub mod Turns
+pub mod Way
