@@ -1,19 +1,17 @@
 -- The laws behind the next lift of a placement.
 use mathlib.Core.Bool.{Bool, true, false}
-use mathlib.Core.Path.{_≡_}
+use mathlib.Core.Path.{_≡_, sym}
 use Prim.Native.Nat.{ℕ, _+_, _≤_, _<_}
 use native.Mathlib.Omega.{arith}
 use borrow.Author.Tests.{ltb-true, ltb-false}
 use lib.Dec.{ltb}
 use Rattle.stacks.specs.Placing.{all, some, Outside, Next, uncover, clear, across, away}
+use Rattle.reach.proofs.Deciding.{true-false}
 use Rattle.placing.specs.declared.ahead.Ahead.{Ahead}
 use Rattle.placing.specs.Placed.{TightIs}
 
-false-true : false ≡ true → ⊥
-false-true e = let z : _≡_ {A = ℕ} 0 1 = cc in omega arith
-
 pub not-tight : (n : Ahead) → 1 < n .outside → TightIs n false
-not-tight n h = record { one = λ e. absurd (false-true e); spare = λ _. some h }
+not-tight n h = record { one = λ e. absurd (true-false (sym e)); spare = λ _. some h }
 
 pub tight-by : (n : Ahead) → 0 < n .outside → n .outside ≤ 1 → TightIs n (ltb 1 (n .cover + n .load))
 tight-by n h f = record {

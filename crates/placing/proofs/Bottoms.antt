@@ -1,7 +1,7 @@
 -- The lowest rows of a shaft are the bottom part of its stack; and the frame, the lifts and the heights of a store that is lent apart, in the stack view.
 use mathlib.Core.List.{List, [], _∷_}
 use mathlib.Core.Path.{_≡_, refl, sym, ap, fun-ext}
-use Prim.Native.Nat.{ℕ, zero, suc, _+_, _≤_, _<_}
+use Prim.Native.Nat.{ℕ, zero, suc, _+_, _-_, _≤_, _<_}
 use native.Mathlib.Decide.{ℕ-discrete}
 use native.Mathlib.Omega.{arith}
 use lib.ListN.{length}
@@ -40,9 +40,10 @@ module _ (s : Store) (x : ℕ) where
   stack-onto k h = rows-onto (height s x) k h
 
   -- a row and the rows under it
-  pub row-onto : (k : ℕ) → k < height s x → Onto (slot s x (suc k) ∷ downward s x k) (stack s x)
+  pub row-onto : (y : ℕ) → 0 < y → y ≤ height s x → Onto (slot s x y ∷ downward s x (y - 1)) (stack s x)
   unfolding downward
-  row-onto k h = stack-onto (suc k) h
+  row-onto zero p h = absurd (omega arith)
+  row-onto (suc k) p h = let e : suc k - 1 ≡ k = omega arith in rw e (stack-onto (suc k) h)
 
 -- a legal lift is an allowed one
 pub legal-allowed : (s : Store) {a b : ℕ} → Legal (s .m) (depth s) (stack s) a b → Allowed s a b

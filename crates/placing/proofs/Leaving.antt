@@ -6,7 +6,7 @@ use Prim.Native.Nat.{ℕ, suc, _+_, _-_, _≤_, _<_}
 use native.Mathlib.Omega.{arith}
 use lib.ListN.{length}
 use Rattle.stacks.specs.Run.{Stacks}
-use Rattle.stacks.specs.Placing.{Onto, Passed, Over, Outside}
+use Rattle.stacks.specs.Placing.{Passed, Over, Outside}
 use Rattle.stacks.proofs.Bottoms.{onto-same, onto-length}
 use Rattle.stacks.proofs.Sums.{everywhere}
 use Rattle.stacks.proofs.Stores.{put, put-same, put-other}
@@ -63,7 +63,7 @@ module _ (f : Frame) (heights slots : List ℕ) (b y : ℕ) where
       all = h .all;
     };
     over = record {
-      stands = at-row (omega (arith, q .row)) (row-onto (storeOf f heights slots) b (y - 1) (omega (arith, q .stands, q .row)));
+      stands = row-onto (storeOf f heights slots) b y (q .row) (q .stands);
       unpassed = omega (arith, length-same, rows-length (storeOf f heights slots) b (y - 1));
     };
     covered = q .stands;
@@ -72,10 +72,6 @@ module _ (f : Frame) (heights slots : List ℕ) (b y : ℕ) where
     sized = refl;
     fits = omega arith;
   }
-    where
-      at-row : {z : ℕ} → suc (y - 1) ≡ z → Onto (slot (storeOf f heights slots) b (suc (y - 1)) ∷ downward (storeOf f heights slots) b (y - 1)) (stack (storeOf f heights slots) b)
-          → Onto (slot (storeOf f heights slots) b z ∷ downward (storeOf f heights slots) b (y - 1)) (stack (storeOf f heights slots) b)
-      at-row e o = rw e at o
 
 module _ {f : Frame} {heights₀ slots₀ : List ℕ} {b y at₀ : ℕ} {came heights slots : List ℕ} {at : ℕ} {out : List ℕ} (q : CanLeave f heights₀ b y)
     (h : at₀ + (heightIn heights₀ b + 1 - y) ≤ length came) (u : Leaving f heights₀ slots₀ b y at₀ came heights slots at out)

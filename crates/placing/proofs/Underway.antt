@@ -1,5 +1,5 @@
 -- A placement under way: what holds before each lift of it, and that the next lift keeps it.
-use mathlib.Core.List.{List, _∷_}
+use mathlib.Core.List.{List}
 use mathlib.Core.Logic.{_≢_}
 use mathlib.Core.Path.{_≡_, refl, sym, ap, _∙_, subst⁻¹, subst₂}
 use Prim.Native.Nat.{ℕ, suc, _+_, _-_, _≤_, _<_}
@@ -91,16 +91,10 @@ module _ (f : Frame) (heights slots : List ℕ) (a y b y′ : ℕ) (h : Held f h
   }
 
   over : Over (kept (storeOf f heights slots) a y b y′) (stack (storeOf f heights slots)) (slot (storeOf f heights slots) a y) a (downward (storeOf f heights slots) a (y - 1))
-  over =
-      let e : suc (y - 1) ≡ y = omega (arith, q .row) in
-      record {
-        stands = ap-row e (row-onto (storeOf f heights slots) a (y - 1) (omega (arith, q .stands, q .row)));
-        unpassed = omega (arith, length-first, rows-length (storeOf f heights slots) a (y - 1));
-      }
-    where
-      ap-row : {z : ℕ} → suc (y - 1) ≡ z → Onto (slot (storeOf f heights slots) a (suc (y - 1)) ∷ downward (storeOf f heights slots) a (y - 1)) (stack (storeOf f heights slots) a)
-          → Onto (slot (storeOf f heights slots) a z ∷ downward (storeOf f heights slots) a (y - 1)) (stack (storeOf f heights slots) a)
-      ap-row e o = rw e at o
+  over = record {
+    stands = row-onto (storeOf f heights slots) a y (q .row) (q .stands);
+    unpassed = omega (arith, length-first, rows-length (storeOf f heights slots) a (y - 1));
+  }
 
   rooms : depthIn f a + depthIn f b ≤ f .e + (heightIn heights a + heightIn heights b)
   rooms = simp stack-length at (two-rooms passed a b (q .differ) (q .first) (q .second))

@@ -24,7 +24,7 @@ use Rattle.turns.specs.declared.Owed.{Owed}
 use Rattle.turns.specs.declared.Turned.{Turned}
 use Rattle.turns.specs.Turning.{passedRows, OnTheWay, Ready, OwedIs, TurnedIs}
 use Rattle.rounds.specs.Serving.{mostLifts, OneMore, ServedOwed, ServedIs}
-use Rattle.turns.proofs.Way.{passed-length, slot-in, done-now, done-floor, tops-deep, way-after, one-more}
+use Rattle.turns.proofs.Way.{rows-under, passed-length, slot-in, done-now, done-floor, tops-deep, way-after, one-more}
 
 -- rows that are passed stay in other shafts too, under whatever was set on them
 module _ {f : Frame} {tops goal done heights slots : List ℕ} {at to : Spot} (r : Ready f tops goal done heights slots at to) where
@@ -42,10 +42,7 @@ module _ {f : Frame} {tops goal done heights slots : List ℕ} {at to : Spot} (r
 
   -- the rows under the cassette stand on those passed
   under-at : Onto (passedRows goal done (at .shaft .0)) (downward (storeOf f heights slots) (at .shaft .0) (at .row .0 - 1))
-  under-at =
-      let a : ℕ = at .shaft .0 in
-      onto-both (r .way .halfway .passed .onto a) (stack-onto (storeOf f heights slots) a (at .row .0 - 1) (omega (arith, r .stands .standing)))
-      (omega (arith, passed-length goal done a, rows-length (storeOf f heights slots) a (at .row .0 - 1), r .stands .unpassed))
+  under-at = rows-under (r .way) (r .stands)
 
   pub can-place : (0 < (heightIn heights (at .shaft .0) - at .row .0) + (suc (heightIn heights (to .shaft .0)) - to .row .0)
       → depthIn f (at .shaft .0) + depthIn f (to .shaft .0) < f .e + (heightIn heights (at .shaft .0) + heightIn heights (to .shaft .0)))

@@ -6,7 +6,7 @@ use native.Mathlib.Omega.{arith}
 use lib.ListN.{length, set, length-set}
 use lib.Seq.{getD-set-same, getD-set-other}
 use Rattle.stacks.specs.Placing.{Onto, Over}
-use Rattle.stacks.proofs.Bottoms.{onto-then, onto-both}
+use Rattle.stacks.proofs.Bottoms.{onto-then}
 use Rattle.stacks.proofs.Sums.{everywhere}
 use Rattle.stacks.proofs.RoundLaws.{in-place}
 use Rattle.store.specs.Slots.{downward, stack}
@@ -17,14 +17,14 @@ use Rattle.placing.specs.declared.Frame.{Frame}
 use Rattle.placing.specs.declared.leave.Off.{Off}
 use Rattle.placing.specs.Frames.{storeOf, heightIn, Held}
 use Rattle.placing.specs.Left.{CanLeave, LeftIs}
-use Rattle.placing.proofs.Bottoms.{rows-length, stack-onto}
+use Rattle.placing.proofs.Bottoms.{rows-length}
 use Rattle.choices.specs.declared.Round.{Round}
 use Rattle.choices.specs.Choices.{wantedIn, RoundFor}
 use Rattle.turns.specs.declared.Owed.{Owed}
 use Rattle.turns.specs.declared.Turned.{Turned}
 use Rattle.turns.specs.Turning.{passedRows, OnTheWay, Ready}
 use Rattle.rounds.specs.Serving.{deepest, mostLifts, OneMore, ServedIs}
-use Rattle.turns.proofs.Way.{passed-length, slot-in, stands-over, done-now, done-floor, tops-deep, way-after, one-more}
+use Rattle.turns.proofs.Way.{rows-under, passed-length, slot-in, stands-over, done-now, done-floor, tops-deep, way-after, one-more}
 
 module _ {f : Frame} {tops goal done heights slots : List ℕ} {q : Round} (w : OnTheWay f tops goal done heights slots) (r : RoundFor f tops goal done heights slots q) where
   -- the next row of the shaft can be counted
@@ -100,10 +100,7 @@ module _ {f : Frame} {tops goal done heights slots : List ℕ} {q : Round} (w : 
             way-after w (l .held) (leads-run (w .held .shaped) (l .went .steps .leads))
             (record {
               onto = everywhere _ (q .from .shaft .0)
-                  (onto-then
-                  (onto-both (w .halfway .passed .onto (q .from .shaft .0)) (stack-onto (storeOf f heights slots) (q .from .shaft .0) (q .from .row .0 - 1) (omega (arith, r .found .standing)))
-                  (omega (arith, passed-length goal done (q .from .shaft .0), rows-length (storeOf f heights slots) (q .from .shaft .0) (q .from .row .0 - 1), r .found .unpassed)))
-                  (l .first))
+                  (onto-then (rows-under w (r .found)) (l .first))
                   (λ x n. onto-then (w .halfway .passed .onto x) (l .others x n));
               floor = w .halfway .passed .floor;
               within = shaped-within (storeOf f heights′ slots′) (l .held .shaped);

@@ -54,15 +54,9 @@ module _ (f : Frame) (goal done heights slots : List ℕ) {v a y : ℕ} where
   pub stands-over : Stands f heights slots done v a y
       → Over (passedRows goal done) (stack (storeOf f heights slots)) v a (downward (storeOf f heights slots) a (y - 1))
   stands-over t = record {
-    stands = at (omega (arith, t .unpassed)) (row-onto (storeOf f heights slots) a (y - 1) (omega (arith, t .standing, t .unpassed)));
+    stands = rw (slot-in f heights slots a y, t .shows) at (row-onto (storeOf f heights slots) a y (omega (arith, t .unpassed)) (t .standing));
     unpassed = omega (arith, passed-length goal done a, rows-length (storeOf f heights slots) a (y - 1), t .unpassed);
   }
-    where
-      at : suc (y - 1) ≡ y → Onto (slot (storeOf f heights slots) a (suc (y - 1)) ∷ downward (storeOf f heights slots) a (y - 1)) (stack (storeOf f heights slots) a)
-          → Onto (v ∷ downward (storeOf f heights slots) a (y - 1)) (stack (storeOf f heights slots) a)
-      at e o =
-          let shown : slot (storeOf f heights slots) a (suc (y - 1)) ≡ v = ap (slot (storeOf f heights slots) a) e ∙ slot-of (f .m) (f .h) a y heights slots ∙ t .shows in
-          rw shown at o
 
   pub over-stands : {p : List ℕ} → Over (passedRows goal done) (stack (storeOf f heights slots)) v a p → Usable (f .m) a → y ≡ suc (length p) → Stands f heights slots done v a y
   over-stands {p} o u e = record {
@@ -86,8 +80,15 @@ module _ {f : Frame} {tops goal done heights slots : List ℕ} (w : OnTheWay f t
   -- the next row of a shaft that is not finished stands on what is passed of it in the goal
   pub goal-next : (b : ℕ) → heightIn done b < heightIn tops b → Onto (wantedIn goal done b ∷ passedRows goal done b) (stack (storeOf f tops goal) b)
   goal-next b h =
-      rw (slot-of (f .m) (f .h) b (suc (heightIn done b)) tops goal, rows-of (f .m) (f .h) b (heightIn done b) tops goal) at
-      (row-onto (storeOf f tops goal) b (heightIn done b) h)
+      let e : suc (heightIn done b) - 1 ≡ heightIn done b = omega arith in
+      rw (e, slot-of (f .m) (f .h) b (suc (heightIn done b)) tops goal, rows-of (f .m) (f .h) b (heightIn done b) tops goal) at
+      (row-onto (storeOf f tops goal) b (suc (heightIn done b)) (omega arith) h)
+
+  -- the rows under a cassette that is not passed stand on those that are
+  pub rows-under : {v a y : ℕ} → Stands f heights slots done v a y → Onto (passedRows goal done a) (downward (storeOf f heights slots) a (y - 1))
+  rows-under {a = a} {y} t =
+      onto-both (w .halfway .passed .onto a) (stack-onto (storeOf f heights slots) a (y - 1) (omega (arith, t .standing)))
+      (omega (arith, passed-length goal done a, rows-length (storeOf f heights slots) a (y - 1), t .unpassed))
 
   -- the wanted cassette is somewhere
   pub somewhere : (b : ℕ) → Usable (f .m) b → heightIn done b < heightIn tops b
