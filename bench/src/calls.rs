@@ -1,7 +1,6 @@
 //! The C calls on a case.
 
 use crate::cases::Case;
-use halyard_model::play;
 use halyard_outside::calls::{Answer, c};
 
 /// The list space lent: the most that any store asks for.
@@ -53,14 +52,4 @@ pub fn replay(case: &Case, list: &[u8], out: &mut [u8]) -> Answer {
             out.len(),
         )
     })
-}
-
-/// The list that the C call plans for a case, seen to lead to the goal.
-pub fn planned(case: &Case) -> Vec<u8> {
-    let mut list = vec![0; LENT];
-    let answer = plan(case, &mut list);
-    assert_eq!(answer.number, 0);
-    list.truncate(answer.count as usize);
-    assert!(play::leads(&case.start, &list, &case.goal));
-    list
 }

@@ -29,7 +29,7 @@ pub fn shapes() -> Vec<Shape> {
         .collect()
 }
 
-/// A start and a goal that can be reached from it, as stores and as images.
+/// A start and a goal, as stores and as images.
 pub struct Case {
     pub start: Store,
     pub goal: Store,
@@ -37,6 +37,18 @@ pub struct Case {
     pub goal_image: Vec<u8>,
 }
 
+impl Case {
+    pub fn new(start: Store, goal: Store) -> Case {
+        Case {
+            start_image: image::write(&start),
+            goal_image: image::write(&goal),
+            start,
+            goal,
+        }
+    }
+}
+
+/// Random starts of a shape, each with a goal that can be reached from it.
 pub fn cases(random: &mut Random, shape: Shape, count: usize) -> Vec<Case> {
     (0..count).map(|_| case(random, shape)).collect()
 }
@@ -44,10 +56,5 @@ pub fn cases(random: &mut Random, shape: Shape, count: usize) -> Vec<Case> {
 fn case(random: &mut Random, shape: Shape) -> Case {
     let start = random.store(shape.m, shape.h, shape.n());
     let goal = random.reachable_goal(&start);
-    Case {
-        start_image: image::write(&start),
-        goal_image: image::write(&goal),
-        start,
-        goal,
-    }
+    Case::new(start, goal)
 }

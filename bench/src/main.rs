@@ -1,7 +1,9 @@
-//! Times the C calls (a), the thesis's own solve (b) and a full search (c) on the same random stores, and prints Markdown.
+//! Times the C calls (a), plain Rust that does the same work (b) and a full search (c) on the same random stores, and prints
+//! Markdown.
 
 mod calls;
 mod cases;
+mod plain;
 mod report;
 mod stack;
 mod thesis;
@@ -12,7 +14,7 @@ use std::process::ExitCode;
 const USAGE: &str = "usage: halyard-bench [SEED [STORES [ROUNDS]]]
 
 Times the C calls on STORES random pairs of stores of each shape (100), in ROUNDS rounds (51), beside
-the solve of the thesis and a full search, and prints Markdown.";
+plain Rust that does the same work and a full search, and prints Markdown.";
 
 /// The numbers given, or those that stand for them.
 fn arguments() -> Option<[u64; 3]> {

@@ -10,23 +10,30 @@ use std::fmt::Write;
 /// How many cases a full search is tried on.
 const SEARCHED: usize = 3;
 
-/// Both tables, and how they were made.
+/// The three tables, and how they were made.
 pub fn whole(seed: u64, stores: usize, rounds: usize) -> String {
     let mut random = Random::new(seed);
     let mut table = String::from(HEAD);
+    let mut ratios = Ratios::default();
     let mut stacks = Stacks::default();
     for shape in cases::shapes() {
         let cases = cases::cases(&mut random, shape, stores);
         stacks.add(&cases[0]);
-        rows(&mut table, shape, &cases, rounds);
+        let [calls, plain] = timing::in_rounds(shape, &cases, rounds);
+        row(&mut table, shape, "(a)", &calls);
+        row(&mut table, shape, "(b)", &plain);
+        if let Some(search) = timing::search(&cases, SEARCHED) {
+            row(&mut table, shape, "(c)", &search);
+        }
+        ratios.add(shape, &calls, &plain);
     }
     let notes = notes(seed, stores, rounds);
-    format!("{notes}\n{table}\n{}", stacks.table())
+    format!("{notes}\n{table}\n{}\n{}", ratios.table(), stacks.table())
 }
 
 const HEAD: &str = "\
-| m × h | e | n | by | plan, µs | yes or no, µs | replay, µs | lifts | for a cassette | of 4hn + 8n | greatest |
-|---|--:|--:|---|--:|--:|--:|--:|--:|--:|--:|
+| m × h | e | n | by | plan, µs | yes or no, µs | check, µs | replay, µs | lifts | for a cassette | of 4hn + 8n | greatest |
+|---|--:|--:|---|--:|--:|--:|--:|--:|--:|--:|--:|
 ";
 
 fn notes(seed: u64, stores: usize, rounds: usize) -> String {
@@ -34,15 +41,18 @@ fn notes(seed: u64, stores: usize, rounds: usize) -> String {
         "\
 Processor: {}. Seed {seed}.
 
-- (a) is Halyardgage's C calls, from images to a list or an image. (b) is the thesis's own solve, mended, in Rust on
-  arrays, from stores that have been read already; its replay is plain Rust on the same arrays. It covers e ≥ h. (c) is a
-  full search in Rust, which also gives the fewest lifts; it is left out where it finds more than {MOST_STORES} stores.
+- (a) is Halyardgage's C calls. (b) is plain Rust that does the same work from the same images, and refuses what the calls
+  refuse: reader, writer, lifts and rule are those of the tests' model, none of it made for speed, and it allocates, where (a)
+  does not. Its plan is the thesis's own solve, mended, on arrays, which covers e ≥ h. (c) is a full search in Rust, from
+  stores that have been read already, which also gives the fewest lifts; it is left out where it finds more than
+  {MOST_STORES} stores.
 - Each row has {stores} random pairs of stores, every goal one that can be reached, the same pairs for (a) and (b); for (c)
-  the first {SEARCHED} of them.
+  the first {SEARCHED} of them. A check is of the start. (a) and (b) replay the same lists, which are (a)'s.
 - Each time is of one call: for each pair the median of {rounds} rounds, and the mean of these over the pairs. A round goes
   over all pairs with each of the calls in turn. The clock's own cost, {:.0} ns, is in each time. (c) is run once.
-- A plan is lent {LENT} bytes, the same ones each time, which are not cleared. Each pair was planned once before, to see that
-  its list leads to the goal; nothing else was warmed, and no cache was cleared.
+- A plan is lent {LENT} bytes, the same ones each time, which are not cleared. Each call was made once for each pair before, to
+  see that its list leads to the goal and that (a) and (b) answer and write the same; nothing else was warmed, and no cache was
+  cleared.
 - Lifts are the mean of a row's lists. The last two columns are the mean and the greatest share of 4hn + 8n.
 ",
         processor(),
@@ -59,39 +69,93 @@ fn processor() -> String {
         .map_or("not known".into(), |(_, model)| model.trim().into())
 }
 
-fn rows(table: &mut String, shape: Shape, cases: &[Case], rounds: usize) {
-    let (calls, thesis) = timing::in_rounds(shape, cases, rounds);
-    row(table, shape, "(a)", &calls);
-    if let Some(thesis) = thesis {
-        row(table, shape, "(b)", &thesis);
-    }
-    if let Some(search) = timing::search(cases, SEARCHED) {
-        row(table, shape, "(c)", &search);
-    }
-}
-
 fn row(table: &mut String, shape: Shape, by: &str, measured: &Measured) {
     let Shape { m, h, e } = shape;
-    let n = shape.n();
-    let count = measured.lifts.len() as f64;
-    let lifts = measured.lifts.iter().sum::<usize>() as f64 / count;
-    let greatest = *measured.lifts.iter().max().expect("a case") as f64;
-    let space = shape.list_space() as f64;
     writeln!(
         table,
-        "| {m} × {h} | {e} | {n} | {by} | {} | {} | {} | {lifts:.0} | {:.2} | {:.3} | {:.3} |",
+        "| {m} × {h} | {e} | {} | {by} | {} | {} | {} | {} | {} |",
+        shape.n(),
         microseconds(measured.plan),
         microseconds(measured.yes_or_no),
+        microseconds(measured.check),
         microseconds(measured.replay),
-        lifts / n as f64,
-        lifts / space,
-        greatest / space,
+        lifts(shape, &measured.lifts),
     )
     .expect("a string takes every line");
 }
 
 fn microseconds(time: Option<f64>) -> String {
-    time.map_or("–".into(), |time| format!("{:.2}", time / 1000.0))
+    decimals(time.map(|time| time / 1000.0))
+}
+
+/// Two decimals, or a dash.
+fn decimals(number: Option<f64>) -> String {
+    number.map_or("–".into(), |number| format!("{number:.2}"))
+}
+
+/// The last four columns.
+fn lifts(shape: Shape, lifts: &[usize]) -> String {
+    let Some(&greatest) = lifts.iter().max() else {
+        return "– | – | – | –".into();
+    };
+    let mean = lifts.iter().sum::<usize>() as f64 / lifts.len() as f64;
+    let space = shape.list_space() as f64;
+    format!(
+        "{mean:.0} | {:.2} | {:.3} | {:.3}",
+        mean / shape.n() as f64,
+        mean / space,
+        greatest as f64 / space,
+    )
+}
+
+/// The times of (a) as parts of those of (b), and the greatest of them.
+#[derive(Default)]
+struct Ratios {
+    rows: String,
+    greatest: [Option<f64>; 4],
+}
+
+impl Ratios {
+    fn add(&mut self, shape: Shape, calls: &Measured, plain: &Measured) {
+        let Shape { m, h, e } = shape;
+        let ratios = [
+            ratio(calls.plan, plain.plan),
+            ratio(calls.yes_or_no, plain.yes_or_no),
+            ratio(calls.check, plain.check),
+            ratio(calls.replay, plain.replay),
+        ];
+        for (greatest, ratio) in self.greatest.iter_mut().zip(ratios) {
+            *greatest = greater(*greatest, ratio);
+        }
+        self.rows += &format!("| {m} × {h} | {e} | {} |\n", joined(ratios));
+    }
+
+    fn table(&self) -> String {
+        format!(
+            "\
+(a) against (b): the time of (a) divided by that of (b). Above 1, (a) takes longer.
+
+| m × h | e | plan | yes or no | check | replay |
+|---|--:|--:|--:|--:|--:|
+{}| greatest | | {} |
+",
+            self.rows,
+            joined(self.greatest)
+        )
+    }
+}
+
+fn ratio(calls: Option<f64>, plain: Option<f64>) -> Option<f64> {
+    Some(calls? / plain?)
+}
+
+/// The greater of the numbers that are there.
+fn greater(one: Option<f64>, other: Option<f64>) -> Option<f64> {
+    one.into_iter().chain(other).reduce(f64::max)
+}
+
+fn joined(numbers: [Option<f64>; 4]) -> String {
+    numbers.map(decimals).join(" | ")
 }
 
 /// The most stack that each call used, in bytes.

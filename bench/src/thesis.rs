@@ -9,7 +9,6 @@
 use halyard_model::{Store, play};
 
 /// Columns of blocks, with rows from 1.
-#[derive(Clone)]
 pub struct Grid {
     m: usize,
     h: usize,
@@ -54,19 +53,6 @@ impl Grid {
         self.slots[to][self.top[to]] = block;
         self.column[usize::from(block)] = to as u8;
         self.top[to] += 1;
-    }
-
-    /// Does the moves of a list while they are legal, and gives how many that were.
-    pub fn replay(&mut self, list: &[u8]) -> usize {
-        for (done, &byte) in list.iter().enumerate() {
-            let (from, to) = play::shafts_of(byte);
-            let named = from < self.m && to < self.m && from != to;
-            if !named || self.top[from] == 0 || self.top[to] == self.h {
-                return done;
-            }
-            self.shift(from, to);
-        }
-        list.len()
     }
 }
 
@@ -217,9 +203,9 @@ impl Solver<'_> {
 }
 
 /// Writes a list from start to goal and gives its count of moves.
-pub fn solve(start: &Grid, goal: &Grid, list: &mut [u8]) -> usize {
+pub fn solve(start: Grid, goal: &Grid, list: &mut [u8]) -> usize {
     let mut solver = Solver {
-        grid: start.clone(),
+        grid: start,
         list,
         count: 0,
     };
@@ -248,10 +234,9 @@ mod tests {
     /// The list leads to the goal and keeps to 4hn + 8n.
     fn solves(start: &Store, goal: &Store) {
         let mut list = vec![0; start.list_space()];
-        let count = solve(&Grid::new(start), &Grid::new(goal), &mut list);
+        let count = solve(Grid::new(start), &Grid::new(goal), &mut list);
         let about = || format!("{} to {}", text::write(start), text::write(goal));
         assert!(play::leads(start, &list[..count], goal), "{}", about());
-        assert_eq!(Grid::new(start).replay(&list[..count]), count);
     }
 
     #[test]
@@ -283,21 +268,6 @@ mod tests {
             let start = random.store(m, h, n);
             let goal = random.rearranged(&start);
             solves(&start, &goal);
-        }
-    }
-
-    #[test]
-    fn replay_stops_at_an_illegal_move() {
-        let start = text::read("3x2: [1] [2 3] []").unwrap();
-        for (list, done) in [
-            (&[0x02, 0x10, 0x21][..], 3),
-            (&[0x02, 0x21], 1),
-            (&[0x20], 0),
-            (&[0x00], 0),
-            (&[0x03], 0),
-            (&[0x30], 0),
-        ] {
-            assert_eq!(Grid::new(&start).replay(list), done, "{list:x?}");
         }
     }
 }

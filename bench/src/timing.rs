@@ -2,28 +2,22 @@
 
 use crate::calls::{self, LENT};
 use crate::cases::{Case, Shape};
-use crate::thesis::{self, Grid};
+use crate::plain;
 use halyard_model::play;
 use halyard_model::search::Search;
+use halyard_outside::calls::Answer;
 use std::hint::black_box;
 use std::time::Instant;
 
-/// What was measured of one way to plan, on one shape. Times are of one call, in nanoseconds.
+/// What was measured of one way to do the calls, on one shape. Times are of one call, in nanoseconds.
 #[derive(Default)]
 pub struct Measured {
     pub plan: Option<f64>,
     pub yes_or_no: Option<f64>,
+    pub check: Option<f64>,
     pub replay: Option<f64>,
+    /// One for each list planned.
     pub lifts: Vec<usize>,
-}
-
-/// The list that the thesis's solve gives for a case, seen to lead to the goal.
-fn solved(case: &Case, (start, goal): &(Grid, Grid)) -> Vec<u8> {
-    let mut list = vec![0; LENT];
-    let count = thesis::solve(start, goal, &mut list);
-    list.truncate(count);
-    assert!(play::leads(&case.start, &list, &case.goal));
-    list
 }
 
 /// Searches give up past this many stores.
@@ -63,16 +57,16 @@ impl Clock {
         self.cases[case].push(taken.as_nanos() as f64);
     }
 
-    /// The median of the rounds for each case, and the mean of those.
-    fn mean_of_medians(self) -> f64 {
-        let count = self.cases.len() as f64;
-        self.cases.into_iter().map(median).sum::<f64>() / count
+    /// The median of the rounds for each case, and the mean of those. None where nothing was timed.
+    fn mean_of_medians(self) -> Option<f64> {
+        let medians: Vec<f64> = self.cases.into_iter().map(median).collect::<Option<_>>()?;
+        Some(medians.iter().sum::<f64>() / medians.len() as f64)
     }
 }
 
-fn median(mut times: Vec<f64>) -> f64 {
+fn median(mut times: Vec<f64>) -> Option<f64> {
     times.sort_by(f64::total_cmp);
-    times[times.len() / 2]
+    times.get(times.len() / 2).copied()
 }
 
 /// What the clock itself takes, in nanoseconds.
@@ -81,106 +75,134 @@ pub fn clock_cost() -> f64 {
     for _ in 0..1_000 {
         clock.time(0, || ());
     }
-    clock.mean_of_medians()
+    clock.mean_of_medians().expect("timed")
 }
 
-/// Times the C calls, each over all cases in turn.
-pub struct Calls<'a> {
+/// A way to do the calls on a case. All start from its images.
+#[derive(Clone, Copy)]
+struct Way {
+    plan: Option<fn(&Case, &mut [u8]) -> Answer>,
+    yes_or_no: fn(&Case) -> Answer,
+    check: fn(&Case) -> Answer,
+    replay: fn(&Case, &[u8], &mut [u8]) -> Answer,
+}
+
+const CALLS: Way = Way {
+    plan: Some(calls::plan),
+    yes_or_no: calls::reachable,
+    check: calls::check,
+    replay: calls::replay,
+};
+
+/// Plain Rust, which has no plan where the thesis has no solution.
+fn plain(shape: Shape) -> Way {
+    let solved = shape.e >= shape.h;
+    Way {
+        plan: solved.then_some(plain::plan),
+        yes_or_no: plain::reachable,
+        check: plain::check,
+        replay: plain::replay,
+    }
+}
+
+impl Way {
+    /// The lists that it plans, each seen to lead to the goal. None of them where it has no plan.
+    fn lists(&self, cases: &[Case]) -> Vec<Vec<u8>> {
+        let Some(plan) = self.plan else {
+            return Vec::new();
+        };
+        let list = |case| {
+            let mut list = vec![0; LENT];
+            let answer = plan(case, &mut list);
+            assert_eq!(answer.number, 0);
+            list.truncate(answer.count as usize);
+            assert!(play::leads(&case.start, &list, &case.goal));
+            list
+        };
+        cases.iter().map(list).collect()
+    }
+
+    /// What it answers and writes on a case, but for the plan.
+    fn results(&self, case: &Case, list: &[u8]) -> ([Answer; 3], Vec<u8>) {
+        let mut out = vec![0; case.start_image.len()];
+        let replayed = (self.replay)(case, list, &mut out);
+        ([(self.yes_or_no)(case), (self.check)(case), replayed], out)
+    }
+}
+
+/// Space lent to the calls, the same each time.
+struct Lent {
+    list: Vec<u8>,
+    out: Vec<u8>,
+}
+
+/// Times a way, each of its calls over all cases in turn.
+struct Timed<'a> {
+    way: Way,
     cases: &'a [Case],
-    lists: Vec<Vec<u8>>,
-    clocks: [Clock; 3],
+    clocks: [Clock; 4],
 }
 
-impl<'a> Calls<'a> {
-    pub fn new(cases: &'a [Case]) -> Calls<'a> {
-        Calls {
+impl<'a> Timed<'a> {
+    fn new(way: Way, cases: &'a [Case]) -> Timed<'a> {
+        Timed {
+            way,
             cases,
-            lists: cases.iter().map(calls::planned).collect(),
             clocks: std::array::from_fn(|_| Clock::new(cases.len())),
         }
     }
 
-    pub fn round(&mut self, list: &mut [u8]) {
-        let [plans, answers, replays] = &mut self.clocks;
-        for (i, case) in self.cases.iter().enumerate() {
-            plans.time(i, || calls::plan(case, list));
+    /// One round, in which each case replays its list.
+    fn round(&mut self, lists: &[Vec<u8>], lent: &mut Lent) {
+        let Way {
+            plan,
+            yes_or_no,
+            check,
+            replay,
+        } = self.way;
+        let [plans, answers, checks, replays] = &mut self.clocks;
+        let cases = || self.cases.iter().map(black_box).enumerate();
+        if let Some(plan) = plan {
+            let list = black_box(&mut lent.list[..]);
+            cases().for_each(|(i, case)| plans.time(i, || plan(case, list)));
         }
-        for (i, case) in self.cases.iter().enumerate() {
-            answers.time(i, || calls::reachable(case));
-        }
-        let mut out = [0; 300];
-        for (i, case) in self.cases.iter().enumerate() {
-            replays.time(i, || calls::replay(case, &self.lists[i], &mut out));
+        cases().for_each(|(i, case)| answers.time(i, || yes_or_no(case)));
+        cases().for_each(|(i, case)| checks.time(i, || check(case)));
+        let out = black_box(&mut lent.out[..]);
+        for ((i, case), list) in cases().zip(black_box(lists)) {
+            replays.time(i, || replay(case, list, out));
         }
     }
 
-    pub fn measured(self) -> Measured {
-        let [plan, yes_or_no, replay] = self.clocks.map(|clock| Some(clock.mean_of_medians()));
+    fn measured(self, lists: &[Vec<u8>]) -> Measured {
+        let [plan, yes_or_no, check, replay] = self.clocks.map(Clock::mean_of_medians);
         Measured {
             plan,
             yes_or_no,
+            check,
             replay,
-            lifts: self.lists.iter().map(Vec::len).collect(),
+            lifts: lists.iter().map(Vec::len).collect(),
         }
     }
 }
 
-/// Times the thesis's solve, and a replay in Rust of its lists, on stores that have been read already.
-pub struct Thesis {
-    pairs: Vec<(Grid, Grid)>,
-    lists: Vec<Vec<u8>>,
-    clocks: [Clock; 2],
-}
-
-impl Thesis {
-    /// None where the thesis has no solution.
-    pub fn new(shape: Shape, cases: &[Case]) -> Option<Thesis> {
-        if shape.e < shape.h {
-            return None;
-        }
-        let pairs: Vec<_> = cases
-            .iter()
-            .map(|case| (Grid::new(&case.start), Grid::new(&case.goal)))
-            .collect();
-        let solved = |(case, pair)| solved(case, pair);
-        Some(Thesis {
-            lists: cases.iter().zip(&pairs).map(solved).collect(),
-            pairs,
-            clocks: std::array::from_fn(|_| Clock::new(cases.len())),
-        })
+/// The C calls and plain Rust, in rounds that go through both. Both replay the lists of the C call.
+pub fn in_rounds(shape: Shape, cases: &[Case], rounds: usize) -> [Measured; 2] {
+    let ways = [CALLS, plain(shape)];
+    let lists = ways.map(|way| way.lists(cases));
+    for (case, list) in cases.iter().zip(&lists[0]) {
+        assert_eq!(ways[0].results(case, list), ways[1].results(case, list));
     }
-
-    pub fn round(&mut self, list: &mut [u8]) {
-        let [plans, replays] = &mut self.clocks;
-        for (i, (start, goal)) in self.pairs.iter().enumerate() {
-            plans.time(i, || thesis::solve(start, goal, list));
-        }
-        for (i, (start, _)) in self.pairs.iter().enumerate() {
-            replays.time(i, || start.clone().replay(&self.lists[i]));
-        }
-    }
-
-    pub fn measured(self) -> Measured {
-        let [plan, replay] = self.clocks.map(|clock| Some(clock.mean_of_medians()));
-        Measured {
-            plan,
-            yes_or_no: None,
-            replay,
-            lifts: self.lists.iter().map(Vec::len).collect(),
-        }
-    }
-}
-
-/// The C calls and the thesis's solve, in rounds that go through all of them.
-pub fn in_rounds(shape: Shape, cases: &[Case], rounds: usize) -> (Measured, Option<Measured>) {
-    let mut calls = Calls::new(cases);
-    let mut thesis = Thesis::new(shape, cases);
-    let mut list = vec![0; LENT];
+    let mut lent = Lent {
+        list: vec![0; LENT],
+        out: vec![0; 300],
+    };
+    let mut timed = ways.map(|way| Timed::new(way, cases));
     for _ in 0..rounds {
-        calls.round(&mut list);
-        if let Some(thesis) = &mut thesis {
-            thesis.round(&mut list);
+        for way in &mut timed {
+            way.round(&lists[0], &mut lent);
         }
     }
-    (calls.measured(), thesis.map(Thesis::measured))
+    let [calls, plain] = timed;
+    [calls.measured(&lists[0]), plain.measured(&lists[1])]
 }
