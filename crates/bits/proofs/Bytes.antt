@@ -1,15 +1,14 @@
 -- Bytes as bits and back, and bytes written out of bits: the last one ends in zero bits (document 01, "The image": "then zero bits to the end of the byte").
 use mathlib.Core.Bool.{Bool, false}
-use mathlib.Core.List.{List, [], _∷_, _++_}
+use mathlib.Core.List.{List, [], _∷_, _++_, append-assoc, append-nil}
 use mathlib.Core.Path.{_≡_, refl, sym, ap, ap₂, _∙_}
-use Prim.Native.Nat.{ℕ, zero, suc, _+_, _-_, _*_, _^_, _≤_, _<_}
-use native.Mathlib.Decide.{decLt}
-use native.Mathlib.Nat.{zero-div, suc-mul}
+use Prim.Native.Nat.{ℕ, zero, suc, _+_, _*_, _≤_, _<_}
+use native.Mathlib.Nat.{suc-mul}
 use native.Mathlib.Omega.{arith}
-use lib.ListN.{length, getD, take, drop, length-append, length-drop, List·getD-append, List·getD-eq-default}
-use lib.Seq.{take-all, drop-at, getD-drop, getD-append-add, take-add}
-use Rattle.bits.specs.Fields.{odd, bits, field, packed, bitsOf, bytesOf, byteCount}
-use Rattle.bits.proofs.Widths.{length-bits, field-bits, bits-field, getD-bits}
+use lib.ListN.{length, getD, take, drop, length-append, length-drop}
+use lib.Seq.{take-all, drop-at, getD-drop, take-add}
+use Rattle.bits.specs.Fields.{bits, field, packed, bitsOf, bytesOf, byteCount}
+use Rattle.bits.proofs.Widths.{length-bits, field-bits, bits-field}
 
 -- fields and bytes look at the bits alone, one by one, and past the end at zeros
 pub field-agrees : (l k : List Bool) (w : ℕ) → ((i : ℕ) → getD l i false ≡ getD k i false) → field l w ≡ field k w
@@ -24,25 +23,19 @@ bytes-agree (suc n) l k h =
     ap₂ (λ (b : ℕ) (bs : List ℕ). b ∷ bs) (field-agrees l k 8 h)
     (bytes-agree n (drop 8 l) (drop 8 k) (λ i. getD-drop 8 l i false ∙ h (8 + i) ∙ sym (getD-drop 8 k i false)))
 
-pub no-bits : (w i : ℕ) → getD (bits w 0) i false ≡ false
-no-bits w i =
-    elim (decLt i w) [
-      | yes k ↦ getD-bits w 0 i k ∙ ap odd (zero-div (2 ^ (w - suc i)))
-      | no n ↦ List·getD-eq-default (bits w 0) false (rw (length-bits w 0) (omega arith))
-    ]
-
 -- zero bits at the end change nothing
+zero-agrees : (l : List Bool) (i : ℕ) → getD (l ++ (false ∷ [])) i false ≡ getD l i false
+zero-agrees [] zero = refl
+zero-agrees [] (suc i) = refl
+zero-agrees (b ∷ l) zero = refl
+zero-agrees (b ∷ l) (suc i) = zero-agrees l i
+
 pub padded-agrees : (l : List Bool) (w i : ℕ) → getD (l ++ bits w 0) i false ≡ getD l i false
-padded-agrees l w i =
-    elim (decLt i (length l)) [
-      | yes k ↦ List·getD-append l (bits w 0) false i k
-      | no n ↦ past (i - length l) (omega arith)
-    ]
-  where
-    past : (j : ℕ) → length l + j ≡ i → getD (l ++ bits w 0) i false ≡ getD l i false
-    past j e =
-        ap (λ (k : ℕ). getD (l ++ bits w 0) k false) (sym e)
-        ∙ getD-append-add l (bits w 0) j false ∙ no-bits w j ∙ sym (List·getD-eq-default l false (omega arith))
+unfolding bits
+padded-agrees l zero i = rw append-nil
+padded-agrees l (suc w) i =
+    ap (λ (k : List Bool). getD k i false) (sym (append-assoc l (bits w 0) (false ∷ [])))
+    ∙ zero-agrees (l ++ bits w 0) i ∙ padded-agrees l w i
 
 -- bytes, as bits and back
 pub bytes-back : (bs : List ℕ) → ((i : ℕ) → getD bs i 0 < 256) → bytesOf (length bs) (bitsOf bs) ≡ bs

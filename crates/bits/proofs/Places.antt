@@ -1,17 +1,16 @@
--- Fields at a bit position of a list of bytes: where they end, and each of their bits as a bit of a byte.
+-- Fields at a bit position of a list of bytes: where they end, and what one that is there says of the bits.
 use borrow.Author.Tests.{le-leb, lt-leb, leb-true}
 use mathlib.Core.Bool.{Bool, true, false}
 use mathlib.Core.List.{List, _++_}
 use mathlib.Core.Path.{_≡_, refl, sym, ap, _∙_}
-use Prim.Native.Nat.{ℕ, suc, _+_, _-_, _*_, _/_, _%_, _^_, _≤_, _<_}
+use Prim.Native.Nat.{ℕ, _+_, _-_, _*_, _^_, _≤_, _<_}
 use native.Mathlib.Omega.{arith}
 use lib.Dec.{leb}
-use lib.ListN.{length, getD, drop, length-append, length-drop, take-append-drop}
-use lib.Seq.{getD-drop}
+use lib.ListN.{length, drop, length-append, length-drop, take-append-drop}
 use Rattle.bits.specs.declared.Field.{Field}
 use Rattle.bits.specs.declared.Field.the-variants.{Value, Missing}
-use Rattle.bits.specs.Fields.{odd, bits, field, packed, bitsOf, pick, nextField}
-use Rattle.bits.proofs.Widths.{length-bits, field-bits, bits-field, length-packed, getD-packed}
+use Rattle.bits.specs.Fields.{bits, field, bitsOf, pick, nextField}
+use Rattle.bits.proofs.Widths.{length-bits, field-bits, bits-field, length-packed}
 
 module _ (s : List ℕ) (at w : ℕ) where
   pub length-rest : length (drop at (bitsOf s)) ≡ length s * 8 - at
@@ -25,19 +24,6 @@ module _ (s : List ℕ) (at w : ℕ) where
   pub field-there : at + w ≤ length s * 8 → Value (field (drop at (bitsOf s)) w) ≡ nextField (drop at (bitsOf s)) w
   unfolding nextField
   field-there h = let m : w ≤ length (drop at (bitsOf s)) = rw length-rest (omega arith) in simp (le-leb w (length (drop at (bitsOf s))) m)
-
--- a bit of a list of bytes, by its byte and its place in it
-pub bit-at : (s : List ℕ) (at i : ℕ) → getD (drop at (bitsOf s)) i false ≡ odd (getD s (at / 8 + (at % 8 + i) / 8) 0 / 2 ^ (7 - (at % 8 + i) % 8))
-unfolding bitsOf
-bit-at s at i =
-    let j = at / 8 + (at % 8 + i) / 8 in
-    let k = (at % 8 + i) % 8 in
-    let e : at + i ≡ j * 8 + k = omega arith in
-    let f : 8 - suc k ≡ 7 - k = omega arith in
-    getD-drop at (packed 8 s) i false
-    ∙ ap (λ (n : ℕ). getD (packed 8 s) n false) e
-    ∙ getD-packed 8 s j k (omega arith)
-    ∙ ap (λ (n : ℕ). odd (getD s j 0 / 2 ^ n)) f
 
 -- a field that was written comes first
 pub field-first : (w v : ℕ) (r : List Bool) → v < 2 ^ w → nextField (bits w v ++ r) w ≡ Value v

@@ -1,16 +1,15 @@
 -- Laws of packed fields, shown once for every width and position (document 01, "Agreement on the contracts": "Facts on fields are shown once for all field widths").
 use borrow.Author.Tests.{eq-eqb, ne-eqb, eqb-true, eqb-false}
 use mathlib.Core.Bool.{Bool, true, false}
-use mathlib.Core.List.{List, [], _∷_, _++_, append-assoc}
+use mathlib.Core.List.{List, [], _∷_, _++_, append-assoc, append-nil}
 use mathlib.Core.Path.{_≡_, refl, sym, ap, _∙_}
 use Prim.Native.Nat.{ℕ, zero, suc, _+_, _-_, _*_, _/_, _%_, _^_, _≤_, _<_}
-use native.Mathlib.Decide.{decLt}
-use native.Mathlib.Nat.{pow-suc, mod-lt, zero-div, div-one, suc-mul, not-suc-le-zero, zero-lt-suc}
-use native.Mathlib.Numerals.{add-one}
+use native.Mathlib.Nat.{pow-suc, mod-lt, add-zero, add-suc, div-one, suc-mul, not-suc-le-zero, zero-lt-suc}
+use native.Mathlib.Numerals.{add-one, one-add}
 use native.Mathlib.Omega.{arith}
-use lib.ListN.{length, getD, take, length-append, List·getD-append}
+use lib.ListN.{length, getD, take, length-append}
 use lib.Pow.{shr-shr, field as field-pow, mod-mod-pow}
-use lib.Seq.{take-suc, getD-at, getD-append-add}
+use lib.Seq.{take-suc, getD-at}
 use Rattle.bits.specs.Fields.{digit, odd, bits, field, packed}
 
 pub digit-lt : (b : Bool) → digit b < 2
@@ -69,26 +68,13 @@ bits-low (suc w) (suc k) v h =
     let q : v % 2 ^ suc k % 2 ≡ v % 2 = ap (λ (j : ℕ). v % 2 ^ j % 2) e ∙ mod-mod-pow v k 1 in
     rw (p, q, bits-low w k (v / 2) (omega arith))
 
--- one bit of a number, from the front
-pub getD-bits : (w v i : ℕ) → i < w → getD (bits w v) i false ≡ odd (v / 2 ^ (w - suc i))
+-- the bits of a number are those above its w low ones, and then these
+pub bits-add : (n w v : ℕ) → bits (n + w) v ≡ bits n (v / 2 ^ w) ++ bits w v
 unfolding bits
-getD-bits zero v i h = absurd (not-suc-le-zero h)
-getD-bits (suc w) v i h =
-    elim (decLt i w) [
-      | yes k ↦
-          List·getD-append (bits w (v / 2)) (odd v ∷ []) false i (rw (length-bits w (v / 2)) k)
-          ∙ getD-bits w (v / 2) i k
-          ∙ ap odd (shr-shr v 1 (w - suc i) ∙ shorter k)
-      | no n ↦ last (omega arith)
-    ]
-  where
-    shorter : i < w → v / 2 ^ (1 + (w - suc i)) ≡ v / 2 ^ (suc w - suc i)
-    shorter k = let e : 1 + (w - suc i) ≡ suc w - suc i = omega arith in ap (λ (j : ℕ). v / 2 ^ j) e
-
-    last : i ≡ w → getD (bits w (v / 2) ++ (odd v ∷ [])) i false ≡ odd (v / 2 ^ (suc w - suc i))
-    last e =
-        let z : suc w - suc i ≡ 0 = omega arith in
-        rw (z, e, div-one) (getD-at (bits w (v / 2)) (odd v) [] false w (length-bits w (v / 2)))
+bits-add n zero v = simp (add-zero, div-one, append-nil)
+bits-add n (suc w) v =
+    let e : v / 2 / 2 ^ w ≡ v / 2 ^ suc w = shr-shr v 1 w ∙ ap (λ (j : ℕ). v / 2 ^ j) (one-add w) in
+    rw (add-suc n w, bits-add n w (v / 2), e) (append-assoc (bits n (v / 2 ^ suc w)) (bits w (v / 2)) (odd v ∷ []))
 
 pub length-packed : (w : ℕ) (vs : List ℕ) → length (packed w vs) ≡ length vs * w
 unfolding packed
@@ -99,14 +85,3 @@ pub packed-append : (w : ℕ) (us vs : List ℕ) → packed w (us ++ vs) ≡ pac
 unfolding packed
 packed-append w [] vs = refl
 packed-append w (u ∷ us) vs = ap (λ (l : List Bool). bits w u ++ l) (packed-append w us vs) ∙ sym (append-assoc (bits w u) (packed w us) (packed w vs))
-
--- one bit of packed fields, by its field and its place in it
-pub getD-packed : (w : ℕ) (vs : List ℕ) (j i : ℕ) → i < w → getD (packed w vs) (j * w + i) false ≡ odd (getD vs j 0 / 2 ^ (w - suc i))
-unfolding packed
-getD-packed w [] j i h = rw zero-div
-getD-packed w (v ∷ vs) zero i h =
-    let e : 0 * w + i ≡ i = omega arith in
-    rw e (List·getD-append (bits w v) (packed w vs) false i (rw (length-bits w v) h) ∙ getD-bits w v i h)
-getD-packed w (v ∷ vs) (suc j) i h =
-    let e : suc j * w + i ≡ length (bits w v) + (j * w + i) = omega (arith, suc-mul j w, length-bits w v) in
-    rw e (getD-append-add (bits w v) (packed w vs) (j * w + i) false ∙ getD-packed w vs j i h)

@@ -1,12 +1,11 @@
-// The pen: fields pushed bit by bit, and stored as whole bytes in a lent slice.
-ghost use mathlib.Core.List.{[], _∷_};
+// The pen: fields pushed one after the other, and stored as whole bytes in a lent slice.
 ghost use mathlib.Core.Path.{_≡_};
-ghost use Prim.Native.Nat.{_+_, _*_, _≤_, _<_};
+ghost use Prim.Native.Nat.{_+_, _*_, _/_, _%_, _^_, _≤_, _<_};
 ghost use lib.ListN.{length};
-ghost use Rattle.bits.specs.Fields.{bits, odd};
+ghost use Rattle.bits.specs.Fields.{bits};
 ghost use Rattle.bits.specs.Pens.{noBits, Pushes, Pads};
 
-// How many bytes are stored, the bits of the next one so far, and how many these are.
+// How many bytes are stored, the bits of the next one so far (the low ones of part), and how many these are.
 pub struct Pen {
     pub at: usize,
     pub part: u8,
@@ -23,38 +22,46 @@ pub fn start() -> Pen
     }
 }
 
-// One bit: the lowest of b.
-fn push_bit(p: Pen, out: &mut [u8], b: u8) -> Pen
-    requires { ⌜ (p .full < 8) × (8 * p .at + p .full < 8 * length (now out)) ⌝ }
-    ensures { λ r. ⌜ Pushes (odd b ∷ []) (now (out .entry)) (now (out .exit)) p r ⌝ }
+// The w low bits of v after those of part, as one number.
+fn append(part: u8, v: u16, w: usize) -> u32
+    requires { ⌜ w ≤ 16 ⌝ }
+    ensures { λ r. ⌜ r ≡ part * 2 ^ w + v % 2 ^ w ⌝ }
 {
-    let at = p.at;
-    let part = p.part % 128 * 2 + b % 2;
-    let full = p.full + 1;
-    if full < 8 {
-        return Pen { at, part, full };
-    }
-    out[at] = part;
-    Pen {
-        at: at + 1,
-        part: 0,
-        full: 0,
-    }
+    ((part as u32) << w) | (v as u32 & ((1 << w) - 1))
 }
 
-// The w low bits of v, the most significant first.
-pub fn push(p: Pen, out: &mut [u8], v: u8, w: usize) -> Pen
-    requires { ⌜ (w ≤ 8) × (p .full < 8) ⌝ }
+// The byte that ends k bits before the end of x.
+fn byte_of(x: u32, k: usize) -> u8
+    requires { ⌜ k < 32 ⌝ }
+    ensures { λ r. ⌜ r ≡ x / 2 ^ k % 256 ⌝ }
+{
+    ((x >> k) % 256) as u8
+}
+
+// The w low bits of v, the most significant first. With the pen's own they are 23 at most: two whole bytes to store, and a rest.
+pub fn push(p: Pen, out: &mut [u8], v: u16, w: usize) -> Pen
+    requires { ⌜ (w ≤ 16) × (p .full < 8) ⌝ }
     requires { ⌜ 8 * p .at + p .full + w ≤ 8 * length (now out) ⌝ }
     ensures { λ r. ⌜ Pushes (bits w v) (now (out .entry)) (now (out .exit)) p r ⌝ }
 {
-    let mut q = p;
-    let mut i: usize = 0;
-    while i < w {
-        q = push_bit(q, out, v >> (w - 1 - i));
-        i += 1;
+    let all = append(p.part, v, w);
+    let mut at = p.at;
+    let mut full = p.full + w;
+    if 16 <= full {
+        full -= 8;
+        out[at] = byte_of(all, full);
+        at += 1;
     }
-    q
+    if 8 <= full {
+        full -= 8;
+        out[at] = byte_of(all, full);
+        at += 1;
+    }
+    Pen {
+        at,
+        part: byte_of(all, 0),
+        full,
+    }
 }
 
 // Zero bits to the end of the byte.

@@ -4,13 +4,16 @@ use mathlib.Core.Bool.{true}
 use mathlib.Core.List.{List, [], _∷_}
 use mathlib.Core.Path.{_≡_, refl, subst}
 use lib.Dec.{eqb}
-use Rattle.stacks.specs.Count.{count}
+use Rattle.stacks.specs.Count.{sum, greatest, count}
+use Rattle.marks.specs.Cassettes.{mayRepeat, cassetteFault}
+use Rattle.lifts.specs.Lifting.{shown, placedAt, refusalBy}
 use Rattle.store.specs.Accept.{rowsFault, storeFault}
 use Rattle.store.specs.Lifts.{liftRefusal, lifted, liftNumber}
-use Rattle.store.specs.Lists.{Leads, replayFrom}
-use Rattle.store.specs.Slots.{slot, upward, downward, cassettesBelow, cassettes, cassetteCount, emptyCount, listSpace}
-use Rattle.store.proofs.Faulted.{both-true}
-use Rattle.store.proofs.Replays.{leads-replay}
+use Rattle.store.specs.Lists.{Leads}
+use Rattle.replay.specs.Replaying.{replayFrom}
+use Rattle.store.specs.Slots.{depthBy, deepest, rowsUp, rowsDown, cassettesBelow, cassettes, cassetteCount, emptyCount, listSpace}
+use Rattle.marks.proofs.Faulted.{both-true}
+use Rattle.replay.proofs.Replays.{leads-replay}
 use Rattle.bits.specs.Fields.{bits, packed, bitsOf, bytesOf, nextField}
 use Rattle.image.specs.Image.{imageOf}
 use Rattle.image.specs.Reading.{Reading, readImage}
@@ -56,5 +59,5 @@ all-hold [] e = tt
 all-hold (c ∷ cs) e = let p = both-true (tested c) (allTested cs) e in (holds c (p .0), all-hold cs (p .1))
 
 pub cases : AllHold table
-unfolding allTested ruleTest pairFault liftNumber storeFault rowsFault slot upward downward cassettesBelow cassettes cassetteCount count emptyCount listSpace floor twoShaftReading lifted liftRefusal replayFrom readImage nextField bitsOf imageOf bits packed bytesOf
+unfolding allTested ruleTest pairFault liftNumber storeFault rowsFault cassetteFault mayRepeat shown placedAt refusalBy rowsUp rowsDown depthBy deepest sum greatest cassettesBelow cassettes cassetteCount count emptyCount listSpace floor twoShaftReading lifted liftRefusal replayFrom readImage nextField bitsOf imageOf bits packed bytesOf
 cases = all-hold table refl

@@ -4,7 +4,7 @@ use mathlib.Core.List.{List, [], _∷_}
 use lib.Dec.{eqb}
 use Rattle.store.specs.Slots.{listSpace}
 use Rattle.store.specs.Lifts.{liftNumber}
-use Rattle.store.specs.Lists.{replayFrom}
+use Rattle.replay.specs.Replaying.{replayFrom}
 use Rattle.reach.specs.Pairs.{pairFault}
 use Rattle.reach.specs.Tests.{sameList, sameStore, ruleTest}
 use Rattle.image.specs.Image.{imageOf}

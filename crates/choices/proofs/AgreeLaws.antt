@@ -6,24 +6,24 @@ use native.Mathlib.Decide.{decLt}
 use native.Mathlib.Omega.{arith}
 use lib.ListN.{length, getD, set, replicate, length-set, length-replicate}
 use lib.Seq.{getD-set-same, getD-set-other}
-use Rattle.store.specs.Slots.{slot}
 use Rattle.store.proofs.Rows.{same-rows, rows-same}
-use Rattle.moves.specs.Carried.{held}
+use Rattle.store.specs.Slots.{held}
 use Rattle.placing.specs.declared.Frame.{Frame}
-use Rattle.placing.specs.Frames.{heightIn}
-use Rattle.choices.specs.Choices.{rowsIn, AgreeIs, AgreeingIs}
+use Rattle.lifts.specs.Lifting.{heightIn, shown}
+use Rattle.store.specs.Slots.{rowsDown}
+use Rattle.choices.specs.Choices.{AgreeIs, AgreeingIs}
 
 -- the first k slots of shaft x hold the same
 abbrev pub SameBelow : List ℕ → List ℕ → ℕ → ℕ → Type 0
 SameBelow a b x k = (j : ℕ) → j < k → getD a (16 * x + j) 0 ≡ getD b (16 * x + j) 0
 
 module _ (a b : List ℕ) (x : ℕ) where
-  rows-agree : (k : ℕ) → SameBelow a b x k → rowsIn a x k ≡ rowsIn b x k
-  unfolding slot
+  rows-agree : (k : ℕ) → SameBelow a b x k → rowsDown a x k ≡ rowsDown b x k
+  unfolding shown
   rows-agree k e = same-rows (held 0 0 [] a) (held 0 0 [] b) x k e
 
-  agree-row : (n k : ℕ) → rowsIn a x n ≡ rowsIn b x n → k < n → getD a (16 * x + k) 0 ≡ getD b (16 * x + k) 0
-  unfolding slot
+  agree-row : (n k : ℕ) → rowsDown a x n ≡ rowsDown b x n → k < n → getD a (16 * x + k) 0 ≡ getD b (16 * x + k) 0
+  unfolding shown
   agree-row n k e h = rows-same (held 0 0 [] a) (held 0 0 [] b) x n k e h
 
   -- stopped at a row that differs
@@ -43,12 +43,12 @@ module _ (a b : List ℕ) (x : ℕ) where
 pub record RowsTo (heights slots goal-heights goal-slots : List ℕ) (x r : ℕ) : Type 0 where
   pub now : r ≤ heightIn heights x
   pub goal : r ≤ heightIn goal-heights x
-  pub same : rowsIn slots x r ≡ rowsIn goal-slots x r
+  pub same : rowsDown slots x r ≡ rowsDown goal-slots x r
 
 -- and no more of them
 pub record RowsIs (heights slots goal-heights goal-slots : List ℕ) (x r : ℕ) : Type 0 where
   pub rows : RowsTo heights slots goal-heights goal-slots x r
-  pub longest : (k : ℕ) → k ≤ heightIn heights x → k ≤ heightIn goal-heights x → rowsIn slots x k ≡ rowsIn goal-slots x k → k ≤ r
+  pub longest : (k : ℕ) → k ≤ heightIn heights x → k ≤ heightIn goal-heights x → rowsDown slots x k ≡ rowsDown goal-slots x k → k ≤ r
 
 -- the lesser of two
 pub record LesserOf (a b least : ℕ) : Type 0 where

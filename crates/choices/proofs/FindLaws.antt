@@ -9,22 +9,22 @@ use borrow.Author.Tests.{eqb-true, eq-eqb}
 use lib.Dec.{eqb}
 use lib.ListN.{getD}
 use Rattle.stacks.specs.Run.{Usable}
-use Rattle.store.specs.Slots.{slot}
-use Rattle.reach.specs.Deciding.{Decides}
-use Rattle.reach.proofs.Deciding.{decides-by}
+use Rattle.stacks.specs.Deciding.{Decides}
+use Rattle.stacks.proofs.Deciding.{decides-by}
 use Rattle.placing.specs.declared.Frame.{Frame}
 use Rattle.placing.specs.declared.Spot.{Spot}
-use Rattle.placing.specs.Frames.{heightIn, Fits}
+use Rattle.lifts.specs.Lifting.{heightIn, shown}
+use Rattle.placing.specs.Frames.{Fits}
 use Rattle.choices.specs.declared.find.Found.{Found}
 use Rattle.choices.specs.Choices.{Stands, FoundIs}
 
 module _ (f : Frame) (heights slots done : List ℕ) (v : ℕ) where
   -- the last test: whether the slot shows v
-  pub shown : (x y : ℕ) → Usable (f .m) x → heightIn done x < y → y ≤ heightIn heights x
+  pub slot-tested : (x y : ℕ) → Usable (f .m) x → heightIn done x < y → y ≤ heightIn heights x
       → Decides (eqb (getD slots (16 * x + (y - 1)) 0) v) (Stands f heights slots done v x y)
-  unfolding slot
-  shown x zero u p q = absurd (omega arith)
-  shown x (suc k) u p q =
+  unfolding shown
+  slot-tested x zero u p q = absurd (omega arith)
+  slot-tested x (suc k) u p q =
       let e : suc k - 1 ≡ k = omega arith in
       rw e
       (decides-by (eqb (getD slots (16 * x + k) 0) v)

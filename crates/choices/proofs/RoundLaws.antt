@@ -1,15 +1,13 @@
 -- Rounds: what is needed of them, and what their tests and the plain search show.
-use mathlib.Core.List.{List, []}
+use mathlib.Core.List.{List}
 use mathlib.Core.Bool.{Bool}
 use mathlib.Core.Path.{_≡_, subst, sym}
 use Prim.Native.Nat.{ℕ, suc, _<_}
 use Rattle.stacks.specs.Run.{Usable}
-use Rattle.store.specs.Slots.{slot}
-use Rattle.moves.specs.Carried.{held}
-use Rattle.reach.specs.Deciding.{Decides}
-use Rattle.reach.proofs.Deciding.{decides-as}
+use Rattle.stacks.specs.Deciding.{Decides}
+use Rattle.stacks.proofs.Deciding.{decides-as}
 use Rattle.placing.specs.declared.Frame.{Frame}
-use Rattle.placing.specs.Frames.{heightIn}
+use Rattle.lifts.specs.Lifting.{heightIn, shown}
 use Rattle.choices.specs.declared.Round.{Round}
 use Rattle.choices.specs.declared.find.Found.{Found}
 use Rattle.choices.specs.Choices.{Stands, FoundIs, RoundFor, SomeRound}
@@ -17,7 +15,7 @@ use Rattle.choices.proofs.FindLaws.{none-found}
 
 -- the cassette that the goal has above the rows of x that are passed
 abbrev pub nextOf : List ℕ → List ℕ → ℕ → ℕ
-nextOf goal-slots done x = slot (held 0 0 [] goal-slots) x (suc (heightIn done x))
+nextOf goal-slots done x = shown goal-slots x (suc (heightIn done x))
 
 module _ (f : Frame) (goal-heights goal-slots done heights slots : List ℕ) (v : ℕ) where
   -- the last test: whether the next cassette stands where the round says

@@ -1,13 +1,15 @@
 // The rows of a store that agree with the goal from the bottom, and whether all of the goal is passed.
+use lifts::Heights;
+use lifts::Shaft;
+use lifts::Slots;
 use placing::Frame;
-use store::Shaft;
 ghost use Prim.Native.Nat.{_≤_, _<_};
-ghost use Rattle.reach.specs.Deciding.{Decides};
+ghost use Rattle.stacks.specs.Deciding.{Decides};
 ghost use Rattle.placing.specs.Frames.{Fits};
 ghost use Rattle.choices.specs.Choices.{AgreeIs, AgreeingIs, Finished};
 
 // How many rows of shaft x agree from the bottom, of those up to `most`.
-fn agreeing_rows(slots: &[u8; 256], goal: &[u8; 256], x: Shaft, most: u8) -> u8
+fn agreeing_rows(slots: &Slots, goal: &Slots, x: Shaft, most: u8) -> u8
     requires { ⌜ (x .0 < 16) × (most ≤ 16) ⌝ }
     ensures { λ r. ⌜ AgreeIs (now (slots .entry)) (now (goal .entry)) (x .0) most r ⌝ }
 {
@@ -24,18 +26,12 @@ fn agreeing_rows(slots: &[u8; 256], goal: &[u8; 256], x: Shaft, most: u8) -> u8
 }
 
 // How many rows of each shaft agree, of those that both stores have.
-pub fn agreeing(
-    f: Frame,
-    heights: [u8; 16],
-    slots: &[u8; 256],
-    tops: [u8; 16],
-    goal: &[u8; 256],
-) -> [u8; 16]
+pub fn agreeing(f: Frame, heights: Heights, slots: &Slots, tops: Heights, goal: &Slots) -> Heights
     requires { ⌜ Fits f heights ⌝ }
     requires { ⌜ Fits f tops ⌝ }
     ensures { λ r. ⌜ AgreeingIs f heights (now (slots .entry)) tops (now (goal .entry)) r ⌝ }
 {
-    let mut done: [u8; 16] = [0; 16];
+    let mut done: Heights = [0; 16];
     let mut x: u8 = 0;
     while x < f.m {
         let i = x as usize;
@@ -49,7 +45,7 @@ pub fn agreeing(
 }
 
 // Whether every row of the goal is passed.
-pub fn finished(f: Frame, tops: [u8; 16], done: &[u8; 16]) -> bool
+pub fn finished(f: Frame, tops: Heights, done: &Heights) -> bool
     requires { ⌜ f .m ≤ 16 ⌝ }
     ensures { λ r. ⌜ Decides r (Finished f tops (now (done .entry))) ⌝ }
 {

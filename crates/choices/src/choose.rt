@@ -4,18 +4,23 @@ use crate::find::Found;
 use crate::find::find;
 use crate::find::spot_at;
 use crate::find::stands;
+use lifts::Heights;
+use lifts::Shaft;
+use lifts::Slots;
+use marks::Cassette;
+use moves::Hints;
 use placing::Frame;
 use placing::rooms::usable;
-use store::Shaft;
 ghost use mathlib.Core.Path.{_≡_};
 ghost use Prim.Native.Nat.{ℕ, _≤_, _<_};
 ghost use Rattle.stacks.specs.Run.{Usable};
-ghost use Rattle.reach.specs.Deciding.{Decides};
-ghost use Rattle.placing.specs.Frames.{heightIn, Fits};
+ghost use Rattle.stacks.specs.Deciding.{Decides};
+ghost use Rattle.lifts.specs.Lifting.{heightIn};
+ghost use Rattle.placing.specs.Frames.{Fits};
 ghost use Rattle.choices.specs.Choices.{Finished, wantedIn, RoundFor, SomeRound};
 
 // The cassette that the goal has above the rows of a shaft that are passed.
-pub fn next(goal: &[u8; 256], done: &[u8; 16], x: Shaft) -> u8
+pub fn next(goal: &Slots, done: &Heights, x: Shaft) -> Cassette
     requires { ⌜ (x .0 < 16) × (heightIn (now done) (x .0) < 16) ⌝ }
     ensures { λ r. ⌜ r ≡ wantedIn (now (goal .entry)) (now (done .entry)) (x .0) ⌝ }
 {
@@ -25,7 +30,7 @@ pub fn next(goal: &[u8; 256], done: &[u8; 16], x: Shaft) -> u8
 }
 
 // What a place costs: 16, and the cassettes from it up; less where its shaft does not reach it.
-fn cover(heights: &[u8; 16], p: u8) -> u8
+fn cover(heights: &Heights, p: u8) -> u8
     requires { ⌜ ((x : ℕ) → heightIn (now heights) x ≤ 16) ⌝ }
     ensures { λ r. ⌜ r ≤ 32 ⌝ }
 {
@@ -37,11 +42,11 @@ fn cover(heights: &[u8; 16], p: u8) -> u8
 // where each number was set down last. Nothing is promised, and nothing is asked of the hints.
 fn propose(
     f: Frame,
-    tops: [u8; 16],
-    goal: &[u8; 256],
-    done: &[u8; 16],
-    heights: &[u8; 16],
-    hints: &[u8; 256],
+    tops: Heights,
+    goal: &Slots,
+    done: &Heights,
+    heights: &Heights,
+    hints: &Hints,
 ) -> Round
     requires { ⌜ Fits f tops ⌝ }
     requires { ⌜ Fits f (now heights) ⌝ }
@@ -73,11 +78,11 @@ fn propose(
 // Whether a round can be played.
 fn playable(
     f: Frame,
-    tops: [u8; 16],
-    goal: &[u8; 256],
-    done: &[u8; 16],
-    heights: &[u8; 16],
-    slots: &[u8; 256],
+    tops: Heights,
+    goal: &Slots,
+    done: &Heights,
+    heights: &Heights,
+    slots: &Slots,
     r: Round,
 ) -> bool
     requires { ⌜ Fits f tops ⌝ }
@@ -97,8 +102,8 @@ fn playable(
     stands(f, heights, slots, done, v, from)
 }
 
-// The first shaft that is not finished.
-fn first_left(f: Frame, tops: [u8; 16], done: &[u8; 16]) -> Shaft
+// A shaft that is not finished.
+fn first_left(f: Frame, tops: Heights, done: &Heights) -> Shaft
     requires { ⌜ f .m ≤ 16 ⌝ }
     requires { ⌜ (Finished f tops (now done) → ⊥) ⌝ }
     ensures { λ r. ⌜ Usable (f .m) (r .0) × (heightIn (now (done .entry)) (r .0) < heightIn tops (r .0)) ⌝ }
@@ -114,14 +119,14 @@ fn first_left(f: Frame, tops: [u8; 16], done: &[u8; 16]) -> Shaft
     Shaft(0)
 }
 
-// The first shaft that is not finished, and the first place of its next cassette.
+// A shaft that is not finished, and a place of its next cassette.
 fn first_round(
     f: Frame,
-    tops: [u8; 16],
-    goal: &[u8; 256],
-    done: &[u8; 16],
-    heights: &[u8; 16],
-    slots: &[u8; 256],
+    tops: Heights,
+    goal: &Slots,
+    done: &Heights,
+    heights: &Heights,
+    slots: &Slots,
 ) -> Round
     requires { ⌜ Fits f tops ⌝ }
     requires { ⌜ Fits f (now heights) ⌝ }
@@ -142,12 +147,12 @@ fn first_round(
 // A round that can be played.
 pub fn choose(
     f: Frame,
-    tops: [u8; 16],
-    goal: &[u8; 256],
-    done: &[u8; 16],
-    heights: &[u8; 16],
-    slots: &[u8; 256],
-    hints: &[u8; 256],
+    tops: Heights,
+    goal: &Slots,
+    done: &Heights,
+    heights: &Heights,
+    slots: &Slots,
+    hints: &Hints,
 ) -> Round
     requires { ⌜ Fits f tops ⌝ }
     requires { ⌜ Fits f (now heights) ⌝ }

@@ -1,12 +1,16 @@
 // The plain search for a cassette that is not passed.
+use lifts::Heights;
+use lifts::Row;
+use lifts::Shaft;
+use lifts::Slots;
+use marks::Cassette;
+use moves::Hints;
 use placing::Frame;
 use placing::Spot;
 use placing::rooms::usable;
-use store::Row;
-use store::Shaft;
 ghost use mathlib.Core.Path.{_≡_};
 ghost use Prim.Native.Nat.{_+_, _/_, _%_};
-ghost use Rattle.reach.specs.Deciding.{Decides};
+ghost use Rattle.stacks.specs.Deciding.{Decides};
 ghost use Rattle.placing.specs.Frames.{Fits};
 ghost use Rattle.choices.specs.Choices.{Stands, FoundIs, Somewhere};
 
@@ -29,10 +33,10 @@ pub fn spot_at(p: u8) -> Spot
 // Whether v stands in a row of a shaft, and is not passed there.
 pub fn stands(
     f: Frame,
-    heights: &[u8; 16],
-    slots: &[u8; 256],
-    done: &[u8; 16],
-    v: u8,
+    heights: &Heights,
+    slots: &Slots,
+    done: &Heights,
+    v: Cassette,
     at: Spot,
 ) -> bool
     requires { ⌜ Fits f (now heights) ⌝ }
@@ -53,8 +57,8 @@ pub fn stands(
     slots[16 * i + (y as usize - 1)] == v
 }
 
-// The first place, shaft by shaft and row by row, where v stands and is not passed.
-pub fn find(f: Frame, heights: &[u8; 16], slots: &[u8; 256], done: &[u8; 16], v: u8) -> Found
+// A place where v stands and is not passed, or that there is none.
+pub fn find(f: Frame, heights: &Heights, slots: &Slots, done: &Heights, v: Cassette) -> Found
     requires { ⌜ Fits f (now heights) ⌝ }
     ensures { λ r. ⌜ FoundIs f (now (heights .entry)) (now (slots .entry)) (now (done .entry)) v r ⌝ }
 {
@@ -73,14 +77,14 @@ pub fn find(f: Frame, heights: &[u8; 16], slots: &[u8; 256], done: &[u8; 16], v:
     Found::Nowhere
 }
 
-// A place where v stands and is not passed, where there is one: the one hinted at, if it is right, or else the first.
+// A place where v stands and is not passed, where there is one: the one hinted at, if it is right, or else one that is looked for.
 pub fn seek(
     f: Frame,
-    heights: &[u8; 16],
-    slots: &[u8; 256],
-    done: &[u8; 16],
-    hints: &[u8; 256],
-    v: u8,
+    heights: &Heights,
+    slots: &Slots,
+    done: &Heights,
+    hints: &Hints,
+    v: Cassette,
 ) -> Spot
     requires { ⌜ Fits f (now heights) ⌝ }
     requires { ⌜ Somewhere f (now heights) (now slots) (now done) v ⌝ }

@@ -4,8 +4,8 @@ pub mod agree;
 pub mod choose;
 pub mod find;
 
+use lifts::Shaft;
 use placing::Spot;
-use store::Shaft;
 
 // A round: the shaft that gets its next row, and where the cassette for it stands.
 pub struct Round {

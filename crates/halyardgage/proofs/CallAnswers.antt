@@ -1,57 +1,60 @@
--- The answers of the calls on two images: a fault of the start's image, of the goal's, and where both are read, the answer on their stores.
+-- The answers of the calls on two images: the first fault of reading, and where both are read, the answer on their stores.
 use mathlib.Core.List.{List}
 use mathlib.Core.Path.{_≡_, sym, ap, _∙_, subst₂}
 use Prim.Native.Nat.{ℕ}
+use Rattle.marks.specs.Cassettes.{first}
+use Rattle.marks.proofs.Faulted.{first-stays}
 use Rattle.store.specs.declared.Store.{Store}
-use Rattle.store.specs.Accept.{first}
-use Rattle.store.proofs.Faulted.{first-stays}
 use Rattle.rules.specs.declared.Reach.{Reach}
 use Rattle.rules.specs.Numbers.{reachNumber}
 use Rattle.rules.specs.Promises.{ReachSays}
 use Rattle.planner.specs.declared.Planned.{Planned}
 use Rattle.planner.specs.Numbers.{planNumber}
 use Rattle.planner.specs.Promises.{PlanIs}
-use Rattle.image.specs.Reading.{Reading, readImage}
-use Rattle.halyardgage.specs.Calls.{answerOf, RefusedCall, readFault, readFaults, ReachGives, ReachCallIs, PlanGives, PlanCallIs}
+use Rattle.image.specs.Reading.{Reading}
+use Rattle.halyardgage.specs.declared.Both.{Both}
+use Rattle.halyardgage.specs.Calls.{answerOf, RefusedCall, storeIn, readFault, BothAre, ReachGives, ReachCallIs, PlanGives, PlanCallIs}
 use Rattle.halyardgage.proofs.Readings.{Stands}
 
--- The images are refused with the number k.
-pub record Refused (a b : List ℕ) (k : ℕ) : Type 0 where
-  pub is : readFaults a b ≡ k
-  pub one : k ≡ 0 → ⊥
+-- a fault of the start's image comes first
+pub start-refused : {a b : List ℕ} {k : ℕ} {s t : Store} → k ≡ readFault a → (k ≡ 0 → ⊥) → BothAre a b (record { number = k; start = s; goal = t })
+start-refused {a} {b} e n = record {
+  number = sym (first-stays (readFault a) (readFault b) (λ z. n (e ∙ z)) ∙ sym e);
+  start = λ z. absurd (n z);
+  goal = λ z. absurd (n z);
+}
 
-module _ {a b : List ℕ} {k : ℕ} where
-  pub start-refused : k ≡ readFault a → (k ≡ 0 → ⊥) → Refused a b k
-  start-refused e n = record { is = first-stays (readFault a) (readFault b) (λ z. n (e ∙ z)) ∙ sym e; one = n }
+-- the start is read, and then the goal, or its fault
+pub goal-told : {a b : List ℕ} {k : ℕ} {s t : Store} → Stands a s → k ≡ readFault b → (k ≡ 0 → Stands b t)
+    → BothAre a b (record { number = k; start = s; goal = t })
+goal-told {b = b} p e f = record {
+  number = e ∙ sym (ap (λ (o : Reading). first (o .number) (readFault b)) (p .is));
+  start = λ _. ap (λ (o : Reading). o .store) (sym (p .is));
+  goal = λ z. ap (λ (o : Reading). o .store) (sym (f z .is));
+}
 
-  pub goal-refused : {s : Store} → Stands a s → k ≡ readFault b → (k ≡ 0 → ⊥) → Refused a b k
-  goal-refused p e n = record { is = ap (λ (o : Reading). first (o .number) (readFault b)) (p .is) ∙ sym e; one = n }
+module _ {a b : List ℕ} {o : Both} (p : BothAre a b o) where
+  module _ (n : o .number ≡ 0 → ⊥) where
+    pub reach-refused : ReachCallIs a b (o .number)
+    reach-refused = record { unread = λ _. p .number; answered = λ z. absurd (n (p .number ∙ z)) }
 
-module _ {a b : List ℕ} {k : ℕ} (p : Refused a b k) where
-  pub reach-refused : ReachCallIs a b k
-  reach-refused = record { unread = λ _. sym (p .is); answered = λ z. absurd (p .one (sym (p .is) ∙ z)) }
+    pub plan-refused : {came out : List ℕ} {r : ℕ} → RefusedCall (o .number) came out r → PlanCallIs a b came r out
+    plan-refused q = record { unread = λ _. (q .number ∙ p .number, q .bytes); answered = λ z. absurd (n (p .number ∙ z)) }
 
-  pub plan-refused : {came out : List ℕ} {r : ℕ} → RefusedCall k came out r → PlanCallIs a b came r out
-  plan-refused q = record { unread = λ _. (q .number ∙ sym (p .is), q .bytes); answered = λ z. absurd (p .one (sym (p .is) ∙ z)) }
+  -- both images are read: what holds of the two stores holds of those that the images stand for
+  module _ (e : o .number ≡ 0) where
+    carried : (P : Store → Store → Type 0) → P (o .start) (o .goal) → P (storeIn a) (storeIn b)
+    carried P = subst₂ P (p .start e) (p .goal e)
 
--- both images are read
-module _ {a b : List ℕ} {s t : Store} (e : Stands a s) (f : Stands b t) where
-  none : readFaults a b ≡ 0
-  none = ap (λ (o : Reading). first (o .number) (readFault b)) (e .is) ∙ ap (λ (o : Reading). o .number) (f .is)
+    pub reach-answered : (v : Reach) {r : ℕ} → ReachSays (o .start) (o .goal) v → r ≡ reachNumber v → ReachCallIs a b r
+    reach-answered v {r} q g = record {
+      unread = λ n. absurd (n (sym (p .number) ∙ e));
+      answered = λ _. carried (λ (s t : Store). ReachGives s t r) (record { answer = v; says = q; number = g });
+    }
 
-  -- what holds of the two stores holds of those that the images stand for
-  carried : (P : Store → Store → Type 0) → P s t → P (readImage a .store) (readImage b .store)
-  carried P = subst₂ (λ (o q : Reading). P (o .store) (q .store)) (sym (e .is)) (sym (f .is))
-
-  pub reach-answered : (o : Reach) {r : ℕ} → ReachSays s t o → r ≡ reachNumber o → ReachCallIs a b r
-  reach-answered o {r} p g = record {
-    unread = λ n. absurd (n none);
-    answered = λ _. carried (λ (s t : Store). ReachGives s t r) (record { answer = o; says = p; number = g });
-  }
-
-  pub plan-answered : {came out : List ℕ} {o : Planned} {n r : ℕ} → PlanIs s t came out o → n ≡ planNumber (o .answer) → r ≡ answerOf (o .count) n
-      → PlanCallIs a b came r out
-  plan-answered {came} {out} {o} {n} {r} p g h = record {
-    unread = λ n. absurd (n none);
-    answered = λ _. carried (λ (s t : Store). PlanGives s t came out r) (record { planned = o; is = p; number = h ∙ ap (answerOf (o .count)) g });
-  }
+    pub plan-answered : {came out : List ℕ} {v : Planned} {n r : ℕ} → PlanIs (o .start) (o .goal) came out v → n ≡ planNumber (v .answer)
+        → r ≡ answerOf (v .count) n → PlanCallIs a b came r out
+    plan-answered {came} {out} {v} {n} {r} q g h = record {
+      unread = λ n. absurd (n (sym (p .number) ∙ e));
+      answered = λ _. carried (λ (s t : Store). PlanGives s t came out r) (record { planned = v; is = q; number = h ∙ ap (answerOf (v .count)) g });
+    }

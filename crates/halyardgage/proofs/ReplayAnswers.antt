@@ -7,23 +7,25 @@ use native.Mathlib.Omega.{arith}
 use lib.Dec.{ltb}
 use lib.ListN.{length, getD, drop}
 use Rattle.store.specs.declared.Store.{Store}
-use Rattle.store.specs.declared.Replayed.{Replayed}
-use Rattle.store.specs.Accept.{Accepted, given, first}
-use Rattle.store.specs.Lists.{replay}
-use Rattle.store.specs.Numbers.{endNumber}
-use Rattle.store.specs.Promises.{ReplayIs}
+use Rattle.replay.specs.declared.Replayed.{Replayed}
+use Rattle.store.specs.Accept.{Accepted}
+use Rattle.marks.specs.Cassettes.{given, first}
+use Rattle.replay.specs.Replaying.{replay}
+use Rattle.replay.specs.Numbers.{endNumber}
+use Rattle.replay.specs.Promises.{ReplayIs}
 use Rattle.store.proofs.Acceptance.{accepted-shaped}
-use Rattle.store.proofs.Faulted.{first-stays}
+use Rattle.marks.proofs.Faulted.{first-stays}
 use Rattle.moves.specs.Written.{written}
+use Rattle.reach.proofs.Lasting.{leads-accepted}
 use Rattle.image.specs.declared.Written.{Written}
 use Rattle.image.specs.Image.{imageLength, imageOf}
 use Rattle.image.specs.Reading.{Reading}
 use Rattle.image.specs.Writing.{bytesAfter, WriteIs}
 use Rattle.image.proofs.Carried.{length-bytes}
-use Rattle.image.proofs.Outputs.{not-refused}
+use Rattle.image.proofs.Refused.{not-refused}
 use Rattle.image.proofs.RoundTrip.{read-written}
 use Rattle.halyardgage.specs.Calls.{answerOf, RefusedCall, storeIn, readFault, replayCallFault, ReplayCallIs}
-use Rattle.halyardgage.proofs.Kept.{leads-length, leads-accepted, replay-reaches}
+use Rattle.halyardgage.proofs.Kept.{leads-length, replay-reaches}
 use Rattle.halyardgage.proofs.Readings.{Stands}
 
 length-of-image : (s : Store) → length (imageOf s) ≡ imageLength s

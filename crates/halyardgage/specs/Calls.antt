@@ -6,8 +6,8 @@ use Prim.Native.Nat.{ℕ, _+_, _*_, _%_, _^_}
 use lib.Dec.{ltb}
 use lib.ListN.{length}
 use Rattle.store.specs.declared.Store.{Store}
-use Rattle.store.specs.Accept.{given, first}
-use Rattle.store.specs.Lists.{replay}
+use Rattle.marks.specs.Cassettes.{given, first}
+use Rattle.replay.specs.Replaying.{replay}
 use Rattle.moves.specs.Written.{written}
 use Rattle.rules.specs.declared.Reach.{Reach}
 use Rattle.rules.specs.Numbers.{reachNumber}
@@ -17,6 +17,7 @@ use Rattle.planner.specs.Numbers.{planNumber}
 use Rattle.planner.specs.Promises.{PlanIs}
 use Rattle.image.specs.Image.{imageOf, imageLength}
 use Rattle.image.specs.Reading.{readImage}
+use Rattle.halyardgage.specs.declared.Both.{Both}
 
 -- count × 256 + number; a count of 56 bits or more keeps its low 56 bits
 abbrev pub answerOf : ℕ → ℕ → ℕ
@@ -37,6 +38,12 @@ readFault bytes = readImage bytes .number
 -- "read start first"
 abbrev pub readFaults : List ℕ → List ℕ → ℕ
 readFaults a b = first (readFault a) (readFault b)
+
+-- Two images were read: the number that refuses them, and their stores where none does.
+pub record BothAre (a b : List ℕ) (r : Both) : Type 0 where
+  pub number : r .number ≡ readFaults a b
+  pub start : r .number ≡ 0 → r .start ≡ storeIn a
+  pub goal : r .number ≡ 0 → r .goal ≡ storeIn b
 
 -- The number of the yes or no on two stores.
 pub record ReachGives (s t : Store) (r : ℕ) : Type 0 where

@@ -1,15 +1,17 @@
 // The calls for the controller's C program, on byte slices (document 01, "calls for the controller's C program on numbers and byte
 // slices"; the header is include/halyardgage.h). Each returns count × 256 + number.
 use image::number::read_number;
-use image::reading::read;
-use image::writing::write;
 use planner::make_list;
 use planner::number::plan_number;
+use reading::read;
+use replay::end_number;
+use replay::replay;
 use rules::number::reach_number;
 use rules::reachable;
-use store::number::end_number;
+use store::Store;
+use writing::write;
 ghost use mathlib.Core.Path.{_≡_};
-ghost use Rattle.halyardgage.specs.Calls.{answerOf, RefusedCall, readFault, ReachCallIs, PlanCallIs, ReplayCallIs};
+ghost use Rattle.halyardgage.specs.Calls.{answerOf, RefusedCall, readFault, BothAre, ReachCallIs, PlanCallIs, ReplayCallIs};
 
 // The two parts of an answer put together.
 fn answer(count: usize, number: u8) -> u64
@@ -35,25 +37,50 @@ pub extern "C" fn halyard_check(image: &[u8]) -> u64
     read_number(verdict) as u64
 }
 
+// Two images that were read: the number of the first one that is refused, 0 for none, and their stores where none is.
+pub struct Both {
+    pub number: u8,
+    pub start: Store,
+    pub goal: Store,
+}
+
+// "read start first"
+fn read_both(start: &[u8], goal: &[u8]) -> Both
+    ensures { λ r. ⌜ BothAre (now (start .entry)) (now (goal .entry)) r ⌝ }
+{
+    let one = read(start);
+    let first = one.answer;
+    let number = read_number(first);
+    let s = one.store;
+    if number != 0 {
+        return Both {
+            number,
+            start: s,
+            goal: s,
+        };
+    }
+    let two = read(goal);
+    let second = two.answer;
+    let t = two.store;
+    Both {
+        number: read_number(second),
+        start: s,
+        goal: t,
+    }
+}
+
 // Whether some list of legal lifts leads from start to goal.
 #[no_mangle]
 pub extern "C" fn halyard_reachable(start: &[u8], goal: &[u8]) -> u64
     ensures { λ r. ⌜ ReachCallIs (now (start .entry)) (now (goal .entry)) r ⌝ }
 {
-    let one = read(start);
-    let first = one.answer;
-    let number = read_number(first);
+    let both = read_both(start, goal);
+    let number = both.number;
     if number != 0 {
         return number as u64;
     }
-    let two = read(goal);
-    let second = two.answer;
-    let other = read_number(second);
-    if other != 0 {
-        return other as u64;
-    }
-    let s = one.store;
-    let t = two.store;
+    let s = both.start;
+    let t = both.goal;
     reach_number(reachable(s, t)) as u64
 }
 
@@ -62,20 +89,13 @@ pub extern "C" fn halyard_reachable(start: &[u8], goal: &[u8]) -> u64
 pub extern "C" fn halyard_plan(start: &[u8], goal: &[u8], list: &mut [u8]) -> u64
     ensures { λ r. ⌜ PlanCallIs (now (start .entry)) (now (goal .entry)) (now (list .entry)) r (now (list .exit)) ⌝ }
 {
-    let one = read(start);
-    let first = one.answer;
-    let number = read_number(first);
+    let both = read_both(start, goal);
+    let number = both.number;
     if number != 0 {
         return refused(number, list);
     }
-    let two = read(goal);
-    let second = two.answer;
-    let other = read_number(second);
-    if other != 0 {
-        return refused(other, list);
-    }
-    let s = one.store;
-    let t = two.store;
+    let s = both.start;
+    let t = both.goal;
     let planned = make_list(s, t, list);
     let made = planned.answer;
     answer(planned.count, plan_number(made))
@@ -96,7 +116,7 @@ pub extern "C" fn halyard_replay(image: &[u8], list: &[u8], out: &mut [u8]) -> u
         return refused(10, out);
     }
     let s = one.store;
-    let replayed = s.replay(list);
+    let replayed = replay(s, list);
     let reached = replayed.store;
     write(reached, out);
     let end = replayed.end;

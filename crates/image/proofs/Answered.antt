@@ -4,8 +4,9 @@ use mathlib.Core.Path.{_≡_, refl}
 use Prim.Native.Nat.{ℕ}
 use lib.Dec.{eqb}
 use Rattle.store.specs.declared.Fault.the-variants.{OutOfPlace, TooHigh, NumberZero, Twice, TooMany}
-use Rattle.store.specs.Numbers.{Only}
-use Rattle.store.proofs.Numbered.{only-by, told, told-none, told-store}
+use Rattle.lifts.specs.Numbers.{Only}
+use Rattle.lifts.proofs.Numbered.{only-by}
+use Rattle.store.proofs.Numbered.{told, told-none, told-store}
 use Rattle.image.specs.declared.ReadAnswer.{ReadAnswer}
 use Rattle.image.specs.declared.WriteAnswer.{WriteAnswer}
 use Rattle.image.specs.declared.WriteAnswer.the-variants.{Whole, StoreRefused, NoRoom}

@@ -7,9 +7,9 @@ use Prim.Native.Nat.{ℕ, zero, suc, _≤_, _<_}
 use lib.ListN.{length, getD, take, drop}
 use lib.Seq.{take-at}
 use Rattle.bits.specs.Fields.{bytesOf}
+use Rattle.marks.proofs.Faulted.{first-none}
 use Rattle.store.specs.declared.Store.{Store}
 use Rattle.store.specs.Accept.{storeFault}
-use Rattle.store.proofs.Faulted.{first-none}
 use Rattle.image.specs.declared.Read.{Read}
 use Rattle.image.specs.declared.Written.{Written}
 use Rattle.image.specs.Image.{imageLength, imageOf}
@@ -18,7 +18,7 @@ use Rattle.image.specs.Promises.{ReadIs}
 use Rattle.image.specs.Reading.{Reading, readImage}
 use Rattle.image.specs.Writing.{writeRefusal, bytesAfter, countAfter, WriteIs}
 use Rattle.image.proofs.Nexts.{accepted}
-use Rattle.image.proofs.Outputs.{not-refused}
+use Rattle.image.proofs.Refused.{not-refused}
 use Rattle.image.proofs.RoundTrip.{written-read, read-written}
 
 pub length-bytes : (k : ℕ) (l : List Bool) → length (bytesOf k l) ≡ k

@@ -1,13 +1,14 @@
 -- The first p places of an array, with zeros after them: how a store looks while an image is read or written.
 use mathlib.Core.List.{List, [], _∷_, _++_, append-nil}
 use mathlib.Core.Path.{_≡_, refl, sym, ap, _∙_}
-use Prim.Native.Nat.{ℕ, zero, suc, _+_, _-_, _*_, _≤_, _<_}
+use Prim.Native.Nat.{ℕ, zero, suc, _+_, _-_, _≤_, _<_}
 use native.Mathlib.Nat.{add-suc, add-zero}
 use native.Mathlib.Omega.{arith}
 use lib.ListN.{length, getD, take, set, replicate, length-set, List·getD-append}
 use lib.Seq.{take-suc, take-all, take-take, take-append-le, take-set-le, length-take-le, set-at, append-snoc, getD-append-add, getD-take, getD-set-same}
+use Rattle.lifts.specs.Lifting.{mostShafts, slotCount, shown}
 use Rattle.store.specs.declared.Store.{Store}
-use Rattle.store.specs.Slots.{upward}
+use Rattle.store.specs.Slots.{rowsUp}
 
 abbrev pub cutAt : ℕ → ℕ → List ℕ → List ℕ
 cutAt n p l = take p l ++ replicate (n - p) 0
@@ -81,11 +82,11 @@ pub low-over : (n : ℕ) (l : List ℕ) (p d : ℕ) → length l ≡ n → p + d
 low-over n l p d sized h low = sym (cut-over n l sized p d h (λ i a b. low-zero n l p i sized (omega arith) low a)) ∙ low
 
 -- rows of a shaft, read upward, go by their slots
-pub upward-agrees : (s t : Store) (x k : ℕ) → ((j : ℕ) → j < k → getD (s .slots) (16 * x + j) 0 ≡ getD (t .slots) (16 * x + j) 0) → upward s x k ≡ upward t x k
-unfolding upward
-upward-agrees s t x zero h = refl
-upward-agrees s t x (suc k) h = rw (upward-agrees s t x k (λ j p. h j (omega arith)), h k (omega arith))
+pub rows-agree : (a b : List ℕ) (x k : ℕ) → ((j : ℕ) → j < k → shown a x (suc j) ≡ shown b x (suc j)) → rowsUp a x k ≡ rowsUp b x k
+unfolding rowsUp
+rows-agree a b x zero h = refl
+rows-agree a b x (suc k) h = rw (rows-agree a b x k (λ j p. h j (omega arith)), h k (omega arith))
 
 -- the store with its first i heights and its first p slots
 abbrev pub cut : Store → ℕ → ℕ → Store
-cut s i p = record { m = s .m; h = s .h; heights = cutAt 16 i (s .heights); slots = cutAt 256 p (s .slots) }
+cut s i p = record { m = s .m; h = s .h; heights = cutAt mostShafts i (s .heights); slots = cutAt slotCount p (s .slots) }

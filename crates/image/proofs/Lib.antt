@@ -1,13 +1,10 @@
 pub mod Answered
 pub mod Carried
 pub mod Cut
-pub mod Endings
 pub mod Lengths
 pub mod Nexts
 pub mod Numbers
-pub mod Outputs
-pub mod Parts
 pub mod ReadBack
+pub mod Refused
 pub mod RoundTrip
-pub mod States
 pub mod WriteBack

@@ -1,5 +1,5 @@
 -- A reading gives one of the numbers 0 to 7 (document 01, "Refused because of the input"), for every list of bytes.
-use mathlib.Core.Bool.{Bool, true, false, not}
+use mathlib.Core.Bool.{Bool, true, false, not, _&&_}
 use mathlib.Core.List.{List, [], _∷_, _++_}
 use Prim.Native.Nat.{ℕ, zero, suc, _+_, _≤_}
 use native.Mathlib.Omega.{arith}
@@ -9,9 +9,10 @@ use Rattle.bits.specs.declared.Field.{Field}
 use Rattle.bits.specs.declared.Field.the-variants.{Value, Missing}
 use Rattle.bits.specs.Fields.{bitsOf, nextField}
 use Rattle.stacks.specs.Count.{count}
+use Rattle.marks.specs.Cassettes.{mayRepeat, given, first, cassetteFault}
 use Rattle.store.specs.declared.Store.{Store}
-use Rattle.store.specs.Accept.{given, first, cassetteFault}
 use Rattle.store.specs.Slots.{depth}
+use Rattle.image.specs.Image.{formWidth, frameWidth, heightWidth, cassetteWidth}
 use Rattle.image.specs.Reading.{Reading, emptyStore, unless, Rest, fromField, next, raised, placed, takeCassette, readRow, readRows, readColumn, readShaft, readShafts, padding, endFault, finish, readBody, readDepth, readSize, readForm, readImage}
 
 record Few (o : Reading) : Type 0 where
@@ -37,18 +38,19 @@ next-few : (w : ℕ) (l : List Bool) (c : ℕ → List Bool → Reading) → ((v
 next-few w l c h = field-few (nextField l w) _ (λ v. h v _)
 
 cassette-few : (d : List ℕ) (v : ℕ) → cassetteFault d v ≤ 7
-cassette-few d v = first-few _ _ (given-few (eqb v 0) 4 (omega arith)) (given-few (ltb 0 (count v d)) 5 (omega arith))
+unfolding cassetteFault
+cassette-few d v = first-few _ _ (given-few (eqb v 0) 4 (omega arith)) (given-few (not (mayRepeat v) && ltb 0 (count v d)) 5 (omega arith))
 
 -- whatever is read next gives such a number
 abbrev FewAfter : Rest → Type 0
 FewAfter c = (b : List ℕ) (s : Store) (l : List Bool) → Few (c b s l)
 
-rows-few : (x k : ℕ) (c : Rest) → FewAfter c → FewAfter (λ b s l. readRows x k b s l c)
+rows-few : (w x k : ℕ) (c : Rest) → FewAfter c → FewAfter (λ b s l. readRows w x k b s l c)
 unfolding readRows
-rows-few x zero c h b s l = h b s l
-rows-few x (suc k) c h b s l =
-    rows-few x k (λ d u r. readRow x k d u r c)
-    (λ d u r. next-few 8 r (λ v q. takeCassette x k v d u q c) (λ v q.
+rows-few w x zero c h b s l = h b s l
+rows-few w x (suc k) c h b s l =
+    rows-few w x k (λ d u r. readRow w x k d u r c)
+    (λ d u r. next-few w r (λ v q. takeCassette x k v d u q c) (λ v q.
     unless-few (cassetteFault d v) _ (cassette-few d v) (h (d ++ (v ∷ [])) (placed u x k v) q))) b s l
 
 shafts-few : (x : ℕ) (c : Rest) → FewAfter c → FewAfter (λ b s l. readShafts x b s l c)
@@ -56,8 +58,8 @@ unfolding readShafts readColumn
 shafts-few zero c h b s l = h b s l
 shafts-few (suc x) c h b s l =
     shafts-few x (λ d u r. readShaft x d u r c)
-    (λ d u r. next-few 5 r (λ v q. readColumn x v d u q c) (λ v q.
-    unless-few (given (ltb (depth u x) v) 3) _ (given-few (ltb (depth u x) v) 3 (omega arith)) (rows-few x v c h d (raised u x v) q))) b s l
+    (λ d u r. next-few heightWidth r (λ v q. readColumn x v d u q c) (λ v q.
+    unless-few (given (ltb (depth u x) v) 3) _ (given-few (ltb (depth u x) v) 3 (omega arith)) (rows-few cassetteWidth x v c h d (raised u x v) q))) b s l
 
 finish-few : FewAfter finish
 unfolding finish
@@ -67,6 +69,6 @@ finish-few b s l =
 pub number-few : (bytes : List ℕ) → readImage bytes .number ≤ 7
 unfolding readImage readBody
 number-few bytes =
-    (next-few 4 (bitsOf bytes) readForm (λ f l.
+    (next-few formWidth (bitsOf bytes) readForm (λ f l.
     unless-few (given (not (eqb f 0)) 1) (readSize l) (given-few (not (eqb f 0)) 1 (omega arith))
-    (next-few 4 l readDepth (λ m r. next-few 4 r (λ h q. readBody (emptyStore (m + 1) (h + 1)) q) (λ h q. shafts-few (m + 1) finish finish-few [] (emptyStore (m + 1) (h + 1)) q))))) .few
+    (next-few frameWidth l readDepth (λ m r. next-few frameWidth r (λ h q. readBody (emptyStore (m + 1) (h + 1)) q) (λ h q. shafts-few (m + 1) finish finish-few [] (emptyStore (m + 1) (h + 1)) q))))) .few

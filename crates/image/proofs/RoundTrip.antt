@@ -15,15 +15,17 @@ use lib.Seq.{take-all}
 use Rattle.bits.specs.Fields.{bits, field, bitsOf, bytesOf, byteCount}
 use Rattle.bits.proofs.Widths.{length-bits, length-packed, field-bits, field-lt, bits-field}
 use Rattle.bits.proofs.Bytes.{padded, bytes-agree, bytes-back, padded-agrees}
+use Rattle.marks.specs.Cassettes.{given}
+use Rattle.marks.proofs.Faulted.{first-none, given-none, not-given, both-true}
+use Rattle.lifts.specs.Lifting.{mostShafts, mostRows, slotCount, shown}
 use Rattle.store.specs.declared.Store.{Store}
-use Rattle.store.specs.Slots.{height, slot, cassettesBelow, cassettes, cassetteCount}
-use Rattle.store.specs.Accept.{given, allBytes, inPlace, shaftsFault, storeFault, Accepted}
+use Rattle.store.specs.Slots.{depth, height, slot, cassettesBelow, cassettes, cassetteCount}
+use Rattle.store.specs.Accept.{allShown, inPlace, shaftsFault, storeFault, Accepted}
 use Rattle.store.specs.Sound.{Shaped}
 use Rattle.store.proofs.Acceptance.{accepted-sound}
-use Rattle.store.proofs.Faulted.{first-none, given-none, not-given, both-true}
-use Rattle.store.proofs.InPlace.{shaped-in-place}
-use Rattle.store.proofs.Typed.{bytes-at}
-use Rattle.image.specs.Image.{headBits, shaftsBits, imageBits, imageLength, imageOf}
+use Rattle.store.proofs.InPlace.{depth-some, depth-most, depth-least, rows-most, shaped-in-place}
+use Rattle.store.proofs.Typed.{shown-at}
+use Rattle.image.specs.Image.{formWidth, frameWidth, headBits, shaftsBits, imageBits, imageLength, imageOf}
 use Rattle.image.specs.Reading.{Reading, emptyStore, next, padding, endFault, finish, readBody, readDepth, readSize, readForm, readImage}
 use Rattle.image.proofs.Cut.{cutAt, cut, cut-over, cut-all, low-zero}
 use Rattle.image.proofs.Nexts.{accepted, unless-accepted, next-reads, Took, took}
@@ -32,17 +34,17 @@ use Rattle.image.proofs.WriteBack.{Low, Settled, shafts-read}
 
 -- the cut of all shafts below m of a store that has nothing beyond is the store
 whole : (s : Store) → Shaped s → cut s (s .m) (16 * s .m) ≡ s
-unfolding slot
+unfolding shown
 whole s p =
-    let e : s .m + (16 - s .m) ≡ 16 = omega (arith, p .shafts) in
-    let f : 16 * s .m + (256 - 16 * s .m) ≡ 256 = omega (arith, p .shafts) in
+    let e : s .m + (mostShafts - s .m) ≡ mostShafts = omega (arith, p .shafts) in
+    let f : 16 * s .m + (slotCount - 16 * s .m) ≡ slotCount = omega (arith, p .shafts) in
     ap₂ (λ (a l : List ℕ). record { m = s .m; h = s .h; heights = a; slots = l })
-    (cut-over 16 (s .heights) (p .heights-sized) (s .m) (16 - s .m) (omega arith) (λ i a b. p .none-beyond i a)
-    ∙ ap (λ (n : ℕ). cutAt 16 n (s .heights)) e ∙ cut-all 16 (s .heights) (p .heights-sized))
-    (cut-over 256 (s .slots) (p .slots-sized) (16 * s .m) (256 - 16 * s .m) (omega arith) (λ i a b. none i a (omega arith))
-    ∙ ap (λ (n : ℕ). cutAt 256 n (s .slots)) f ∙ cut-all 256 (s .slots) (p .slots-sized))
+    (cut-over mostShafts (s .heights) (p .heights-sized) (s .m) (mostShafts - s .m) (omega arith) (λ i a b. p .none-beyond i a)
+    ∙ ap (λ (n : ℕ). cutAt mostShafts n (s .heights)) e ∙ cut-all mostShafts (s .heights) (p .heights-sized))
+    (cut-over slotCount (s .slots) (p .slots-sized) (16 * s .m) (slotCount - 16 * s .m) (omega arith) (λ i a b. none i a (omega arith))
+    ∙ ap (λ (n : ℕ). cutAt slotCount n (s .slots)) f ∙ cut-all slotCount (s .slots) (p .slots-sized))
   where
-    none : (i : ℕ) → 16 * s .m ≤ i → i < 256 → getD (s .slots) i 0 ≡ 0
+    none : (i : ℕ) → 16 * s .m ≤ i → i < slotCount → getD (s .slots) i 0 ≡ 0
     none i a b =
         let e : 16 * (i / 16) + i % 16 ≡ i = omega arith in
         let z : height s (i / 16) ≡ 0 = p .none-beyond (i / 16) (omega arith) in
@@ -69,11 +71,11 @@ written-read s e =
     let shafts = shaftsBits s (s .m) in
     let faults = first-none (given (not (inPlace s)) 12) _ e in
     let m : s .m - 1 + 1 ≡ s .m = omega (arith, p .some-shaft) in
-    let h : s .h - 1 + 1 ≡ s .h = omega (arith, p .some-row) in
-    ap (λ (l : List Bool). next 4 l readForm) (padded (imageBits s) k (omega arith) ∙ simp append-assoc)
-    ∙ next-reads 4 0 (bits 4 (s .m - 1) ++ (bits 4 (s .h - 1) ++ (shafts ++ pad))) readForm (zero-lt-suc 15)
-    ∙ next-reads 4 (s .m - 1) (bits 4 (s .h - 1) ++ (shafts ++ pad)) readDepth (omega (arith, p .shaped .shafts))
-    ∙ next-reads 4 (s .h - 1) (shafts ++ pad) (λ n r. readBody (emptyStore (s .m - 1 + 1) (n + 1)) r) (omega (arith, p .shaped .rows))
+    let h : s .h - 1 + 1 ≡ s .h = omega (arith, depth-least (s .h) 0 (p .some-row 0 (p .some-shaft))) in
+    ap (λ (l : List Bool). next formWidth l readForm) (padded (imageBits s) k (omega arith) ∙ simp append-assoc)
+    ∙ next-reads formWidth 0 (bits frameWidth (s .m - 1) ++ (bits frameWidth (s .h - 1) ++ (shafts ++ pad))) readForm (zero-lt-suc 15)
+    ∙ next-reads frameWidth (s .m - 1) (bits frameWidth (s .h - 1) ++ (shafts ++ pad)) readDepth (omega (arith, p .shaped .shafts))
+    ∙ next-reads frameWidth (s .h - 1) (shafts ++ pad) (λ n r. readBody (emptyStore (s .m - 1 + 1) (n + 1)) r) (omega (arith, rows-most (s .h) 0 (p .shaped .rows 0)))
     ∙ ap₂ (λ (n r : ℕ). readBody (emptyStore n r) (shafts ++ pad)) m h
     ∙ shafts-back s (p .shaped) (s .m) pad finish (p .shaped .shafts) (first-none (shaftsFault s (s .m)) _ (faults .1) .0)
     ∙ finishes (cassettes s) (cut s (s .m) (16 * s .m)) pad (p .few) (zeros-pad k (omega arith))
@@ -88,8 +90,8 @@ finish-settles s m b t l low e =
       same =
           ap₂ (λ (a k : List ℕ). record { m = t .m; h = t .h; heights = a; slots = k }) (sym (low .heights)) (sym (low .slots))
           ∙ ap (λ (u : Store). cut u m (16 * m)) q;
-      heights-sized = subst (λ (u : Store). length (u .heights) ≡ 16) q (low .heights-sized);
-      slots-sized = subst (λ (u : Store). length (u .slots) ≡ 256) q (low .slots-sized);
+      heights-sized = subst (λ (u : Store). length (u .heights) ≡ mostShafts) q (low .heights-sized);
+      slots-sized = subst (λ (u : Store). length (u .slots) ≡ slotCount) q (low .slots-sized);
     }
 
 -- padding is zero bits
@@ -112,37 +114,37 @@ record Body (s : Store) (m h : ℕ) (l : List Bool) : Type 0 where
   clean : shaftsFault s (s .m) ≡ 0
   few : cassetteCount s ≤ 255
 
-module _ (s : Store) (m : ℕ) (few : m ≤ 16) (same : s .m ≡ m) (low : Low m s) (above : (y k : ℕ) → y < m → height s y ≤ k → k < 16 → slot s y (suc k) ≡ 0)
-    (high : (y : ℕ) → y < m → height s y ≤ s .h) where
+module _ (s : Store) (m : ℕ) (few : m ≤ mostShafts) (same : s .m ≡ m) (low : Low m s)
+    (above : (y k : ℕ) → y < m → height s y ≤ k → k < mostRows → slot s y (suc k) ≡ 0) (high : (y : ℕ) → y < m → height s y ≤ depth s y) where
   beyond : (x : ℕ) → m ≤ x → height s x ≡ 0
-  beyond x h = low-zero 16 (s .heights) m x (low .heights-sized) few (low .heights) h
+  beyond x h = low-zero mostShafts (s .heights) m x (low .heights-sized) few (low .heights) h
 
   low-shaped : Shaped s
-  unfolding slot
+  unfolding shown
   low-shaped = record {
     heights-sized = low .heights-sized;
     slots-sized = low .slots-sized;
-    bytes = low .bytes;
+    numbered = low .numbered;
     shafts = omega arith;
     rows = low .rows;
     heights = λ x. elim (decLt x m) [ yes h ↦ high x h | no h ↦ omega (arith, beyond x (omega arith)) ];
     none-beyond = λ x h. beyond x (omega arith);
     none-above = λ x k a b h. elim (decLt x m) [
       | yes g ↦ above x k g h b
-      | no g ↦ low-zero 256 (s .slots) (16 * m) (16 * x + k) (low .slots-sized) (omega arith) (low .slots) (omega arith)
+      | no g ↦ low-zero slotCount (s .slots) (16 * m) (16 * x + k) (low .slots-sized) (omega arith) (low .slots) (omega arith)
     ];
   }
 
-body-read : (s : Store) (m h : ℕ) (l : List Bool) → m ≤ 16 → h ≤ 16 → readBody (emptyStore m h) l ≡ accepted s → Body s m h l
-unfolding readBody finish cassettes cassetteCount allBytes
+body-read : (s : Store) (m h : ℕ) (l : List Bool) → m ≤ mostShafts → h ≤ mostRows → readBody (emptyStore m h) l ≡ accepted s → Body s m h l
+unfolding readBody finish cassettes cassetteCount allShown
 body-read s m h l few rows e =
     let low : Low 0 (emptyStore m h) = record {
       heights-sized = refl;
       slots-sized = refl;
-      bytes = bytes-at (replicate 256 0) refl;
+      numbered = shown-at (replicate slotCount 0) refl;
       heights = refl;
       slots = refl;
-      rows = rows;
+      rows = λ x. depth-most h x rows;
     } in
     let p = shafts-read s (emptyStore m h) m l finish few low (λ b t r. finish-settles s m b t r) e in
     let f = unless-accepted (endFault (cassettesBelow s m) (p .left)) (accepted (cut s m (16 * m))) s (p .after) in
@@ -164,10 +166,10 @@ body-read s m h l few rows e =
 body-accepted : (s : Store) (m h : ℕ) (l : List Bool) → 0 < m → 0 < h → Body s m h l → Accepted s
 unfolding storeFault
 body-accepted s m h l a b p =
-    simp (shaped-in-place s (p .shaped) (omega (arith, p .shafts)) (omega (arith, p .rows)), p .clean, le-ltb 255 (cassetteCount s) (p .few))
+    simp (shaped-in-place s (p .shaped) (omega (arith, p .shafts)) (λ x i. depth-some (s .h) x (omega (arith, p .rows))), p .clean, le-ltb 255 (cassetteCount s) (p .few))
 
 -- the fields before the shafts
-head-begins : (s : Store) (m h : ℕ) (l k r q left : List Bool) → s .m ≡ m + 1 → s .h ≡ h + 1 → l ≡ bits 4 0 ++ k → k ≡ bits 4 m ++ r → r ≡ bits 4 h ++ q
+head-begins : (s : Store) (m h : ℕ) (l k r q left : List Bool) → s .m ≡ m + 1 → s .h ≡ h + 1 → l ≡ bits formWidth 0 ++ k → k ≡ bits frameWidth m ++ r → r ≡ bits frameWidth h ++ q
     → q ≡ shaftsBits s (s .m) ++ left → l ≡ imageBits s ++ left
 unfolding imageBits headBits
 head-begins s m h l k r q left em eh el ek er eq =
@@ -192,28 +194,28 @@ image-bytes s bytes left small e p =
 -- an accepted image gives a store that is accepted, and that store is written as the same bytes
 pub read-written : (bytes : List ℕ) (s : Store) → ((i : ℕ) → getD bytes i 0 < 256) → readImage bytes ≡ accepted s → Accepted s × (imageOf s ≡ bytes)
 unfolding readImage
-read-written bytes s small e = form (took 4 (bitsOf bytes) readForm s e)
+read-written bytes s small e = form (took formWidth (bitsOf bytes) readForm s e)
   where
-    rest : (f : Took 4 (bitsOf bytes) readForm s) (g : Took 4 (drop 4 (bitsOf bytes)) readDepth s)
-        → Took 4 (drop 4 (drop 4 (bitsOf bytes))) (λ h r. readBody (emptyStore (g .v + 1) (h + 1)) r) s → f .v ≡ 0 → Accepted s × (imageOf s ≡ bytes)
+    rest : (f : Took formWidth (bitsOf bytes) readForm s) (g : Took frameWidth (drop formWidth (bitsOf bytes)) readDepth s)
+        → Took frameWidth (drop frameWidth (drop formWidth (bitsOf bytes))) (λ h r. readBody (emptyStore (g .v + 1) (h + 1)) r) s → f .v ≡ 0 → Accepted s × (imageOf s ≡ bytes)
     rest f g h z =
-        let m : g .v < 16 = rw (g .is .value) (field-lt _ 4) in
-        let d : h .v < 16 = rw (h .is .value) (field-lt _ 4) in
+        let m : g .v < 16 = rw (g .is .value) (field-lt _ frameWidth) in
+        let d : h .v < 16 = rw (h .is .value) (field-lt _ frameWidth) in
         let b = body-read s (g .v + 1) (h .v + 1) _ (omega arith) (omega arith) (h .after) in (
           body-accepted s (g .v + 1) (h .v + 1) _ (omega arith) (omega arith) b,
           image-bytes s bytes (b .left) small
               (head-begins s (g .v) (h .v) _ _ _ _ (b .left) (b .shafts) (b .rows)
-              (f .is .begins ∙ ap (λ (k : ℕ). bits 4 k ++ drop 4 (bitsOf bytes)) z) (g .is .begins) (h .is .begins) (b .begins))
+              (f .is .begins ∙ ap (λ (k : ℕ). bits formWidth k ++ drop formWidth (bitsOf bytes)) z) (g .is .begins) (h .is .begins) (b .begins))
               (b .pad),
         )
 
-    size : (f : Took 4 (bitsOf bytes) readForm s) → Took 4 (drop 4 (bitsOf bytes)) readDepth s → f .v ≡ 0 → Accepted s × (imageOf s ≡ bytes)
-    size f g z = rest f g (took 4 (drop 4 (drop 4 (bitsOf bytes))) _ s (g .after)) z
+    size : (f : Took formWidth (bitsOf bytes) readForm s) → Took frameWidth (drop formWidth (bitsOf bytes)) readDepth s → f .v ≡ 0 → Accepted s × (imageOf s ≡ bytes)
+    size f g z = rest f g (took frameWidth (drop frameWidth (drop formWidth (bitsOf bytes))) _ s (g .after)) z
 
-    form : Took 4 (bitsOf bytes) readForm s → Accepted s × (imageOf s ≡ bytes)
+    form : Took formWidth (bitsOf bytes) readForm s → Accepted s × (imageOf s ≡ bytes)
     form f =
-        let u = unless-accepted (given (not (eqb (f .v) 0)) 1) (readSize (drop 4 (bitsOf bytes))) s (f .after) in
-        size f (took 4 (drop 4 (bitsOf bytes)) readDepth s (u .1)) (eqb-true (f .v) 0 (not-given (eqb (f .v) 0) 0 (u .0)))
+        let u = unless-accepted (given (not (eqb (f .v) 0)) 1) (readSize (drop formWidth (bitsOf bytes))) s (f .after) in
+        size f (took frameWidth (drop formWidth (bitsOf bytes)) readDepth s (u .1)) (eqb-true (f .v) 0 (not-given (eqb (f .v) 0) 0 (u .0)))
 
 -- no two images stand for one store
 pub one-image : (a b : List ℕ) (s : Store) → ((i : ℕ) → getD a i 0 < 256) → ((i : ℕ) → getD b i 0 < 256) → readImage a ≡ accepted s → readImage b ≡ accepted s → a ≡ b

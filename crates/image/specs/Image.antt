@@ -4,25 +4,45 @@ use mathlib.Core.List.{List, [], _++_}
 use Prim.Native.Nat.{ℕ, zero, suc, _-_}
 use lib.ListN.{length}
 use Rattle.bits.specs.Fields.{bits, packed, bytesOf, byteCount}
+use Rattle.lifts.specs.Lifting.{heightIn}
 use Rattle.store.specs.declared.Store.{Store}
-use Rattle.store.specs.Slots.{height, upward}
+use Rattle.store.specs.Slots.{rowsUp}
+
+-- how many bits each field has: the form, m − 1 and h − 1, a height, a cassette
+abbrev pub formWidth : ℕ
+formWidth = 4
+
+abbrev pub frameWidth : ℕ
+frameWidth = 4
+
+abbrev pub heightWidth : ℕ
+heightWidth = 5
+
+abbrev pub cassetteWidth : ℕ
+cassetteWidth = 8
 
 -- "form (4 bits, value 0), m − 1 (4), h − 1 (4)"
 unfoldable pub headBits : Store → List Bool
-headBits s = bits 4 0 ++ bits 4 (s .m - 1) ++ bits 4 (s .h - 1)
+headBits s = bits formWidth 0 ++ bits frameWidth (s .m - 1) ++ bits frameWidth (s .h - 1)
 
--- "its height (5) and its cassettes from row 1 upward (8 each)"
-unfoldable pub shaftBits : Store → ℕ → List Bool
-shaftBits s x = bits 5 (height s x) ++ packed 8 (upward s x (height s x))
+-- "its height (5) and its cassettes from row 1 upward (8 each)": shaft x of the heights and the slots
+unfoldable pub columnBits : List ℕ → List ℕ → ℕ → List Bool
+columnBits heights slots x = bits heightWidth (heightIn heights x) ++ packed cassetteWidth (rowsUp slots x (heightIn heights x))
 
 -- "for each shaft from 0": the shafts below x
-unfoldable pub shaftsBits : Store → ℕ → List Bool
-unfolding shaftBits
-shaftsBits s zero = []
-shaftsBits s (suc x) = shaftsBits s x ++ shaftBits s x
+unfoldable pub columnsBits : List ℕ → List ℕ → ℕ → List Bool
+unfolding columnBits
+columnsBits heights slots zero = []
+columnsBits heights slots (suc x) = columnsBits heights slots x ++ columnBits heights slots x
+
+abbrev pub shaftBits : Store → ℕ → List Bool
+shaftBits s = columnBits (s .heights) (s .slots)
+
+abbrev pub shaftsBits : Store → ℕ → List Bool
+shaftsBits s = columnsBits (s .heights) (s .slots)
 
 unfoldable pub imageBits : Store → List Bool
-unfolding headBits shaftsBits
+unfolding headBits columnsBits
 imageBits s = headBits s ++ shaftsBits s (s .m)
 
 -- how many bytes the image has

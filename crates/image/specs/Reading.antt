@@ -8,9 +8,11 @@ use lib.ListN.{length, drop, set, replicate}
 use Rattle.bits.specs.declared.Field.{Field}
 use Rattle.bits.specs.declared.Field.the-variants.{Value, Missing}
 use Rattle.bits.specs.Fields.{field, bitsOf, nextField}
+use Rattle.marks.specs.Cassettes.{given, first, cassetteFault}
+use Rattle.lifts.specs.Lifting.{mostShafts, slotCount}
 use Rattle.store.specs.declared.Store.{Store}
 use Rattle.store.specs.Slots.{depth}
-use Rattle.store.specs.Accept.{given, first, cassetteFault}
+use Rattle.image.specs.Image.{formWidth, frameWidth, heightWidth, cassetteWidth}
 
 -- the store, and the number of the refusal, 0 where the image is accepted
 pub record Reading : Type 0 where
@@ -19,7 +21,7 @@ pub record Reading : Type 0 where
 
 -- a store of m shafts of depth h with no cassette
 abbrev pub emptyStore : ℕ → ℕ → Store
-emptyStore m h = record { m = m; h = h; heights = replicate 16 0; slots = replicate 256 0 }
+emptyStore m h = record { m = m; h = h; heights = replicate mostShafts 0; slots = replicate slotCount 0 }
 
 -- "a refused reading hands back the empty store of m 1, h 1"
 abbrev pub refused : ℕ → Reading
@@ -59,22 +61,23 @@ placed s x k v = record { m = s .m; h = s .h; heights = s .heights; slots = set 
 abbrev pub takeCassette : ℕ → ℕ → ℕ → Part
 takeCassette x k v before s l c = unless (cassetteFault before v) (c (before ++ (v ∷ [])) (placed s x k v) l)
 
-abbrev pub readRow : ℕ → ℕ → Part
-readRow x k before s l c = next 8 l (λ v r. takeCassette x k v before s r c)
+-- a cassette as a field of w bits
+abbrev pub readRow : ℕ → ℕ → ℕ → Part
+readRow w x k before s l c = next w l (λ v r. takeCassette x k v before s r c)
 
--- "its cassettes from row 1 upward (8 each)": the first k
-unfoldable pub readRows : ℕ → ℕ → Part
-readRows x zero before s l c = c before s l
-readRows x (suc k) before s l c = readRows x k before s l (λ b t r. readRow x k b t r c)
+-- "its cassettes from row 1 upward (8 each)": the first k, each a field of w bits
+unfoldable pub readRows : ℕ → ℕ → ℕ → Part
+readRows w x zero before s l c = c before s l
+readRows w x (suc k) before s l c = readRows w x k before s l (λ b t r. readRow w x k b t r c)
 
 -- "3. A height above h.", and then the shaft's cassettes
 unfoldable pub readColumn : ℕ → ℕ → Part
 unfolding readRows
-readColumn x v before s l c = unless (given (ltb (depth s x) v) 3) (readRows x v before (raised s x v) l c)
+readColumn x v before s l c = unless (given (ltb (depth s x) v) 3) (readRows cassetteWidth x v before (raised s x v) l c)
 
 -- "for each shaft from 0 its height (5) and its cassettes"
 abbrev pub readShaft : ℕ → Part
-readShaft x before s l c = next 5 l (λ v r. readColumn x v before s r c)
+readShaft x before s l c = next heightWidth l (λ v r. readColumn x v before s r c)
 
 -- the shafts below x
 unfoldable pub readShafts : ℕ → Part
@@ -101,10 +104,10 @@ readBody s l = readShafts (s .m) [] s l finish
 
 -- "m − 1 (4), h − 1 (4)"
 abbrev pub readDepth : ℕ → List Bool → Reading
-readDepth m l = next 4 l (λ h r. readBody (emptyStore (m + 1) (h + 1)) r)
+readDepth m l = next frameWidth l (λ h r. readBody (emptyStore (m + 1) (h + 1)) r)
 
 abbrev pub readSize : List Bool → Reading
-readSize l = next 4 l readDepth
+readSize l = next frameWidth l readDepth
 
 -- "1. Form isn't 0."
 abbrev pub readForm : ℕ → List Bool → Reading
@@ -113,4 +116,4 @@ readForm f l = unless (given (not (eqb f 0)) 1) (readSize l)
 -- what a list of bytes is read as, for every list
 unfoldable pub readImage : List ℕ → Reading
 unfolding readBody
-readImage bytes = next 4 (bitsOf bytes) readForm
+readImage bytes = next formWidth (bitsOf bytes) readForm

@@ -5,8 +5,9 @@ use Prim.Native.Nat.{ℕ, zero, suc}
 use lib.Dec.{ltb}
 use lib.ListN.{length, drop}
 use Rattle.store.specs.declared.Store.{Store}
-use Rattle.store.specs.Accept.{given, first, storeFault}
-use Rattle.store.specs.Numbers.{Only}
+use Rattle.marks.specs.Cassettes.{given, first}
+use Rattle.lifts.specs.Numbers.{Only}
+use Rattle.store.specs.Accept.{storeFault}
 use Rattle.image.specs.declared.WriteAnswer.{WriteAnswer}
 use Rattle.image.specs.declared.Written.{Written}
 use Rattle.image.specs.Image.{imageLength, imageOf}

@@ -1,8 +1,6 @@
-// Images of stores (document 01, "The image"): a store read from packed bits, and written as them. The definitions that the contracts
-// cite are in specs/; proofs/RoundTrip.antt shows that reading and writing undo each other.
+// Images of stores (document 01, "The image"): the answers of reading and of writing one. The definitions that the contracts of `reading`
+// and `writing` cite are in specs/; proofs/RoundTrip.antt shows that the two undo each other.
 pub mod number;
-pub mod reading;
-pub mod writing;
 
 use store::Fault;
 use store::Store;

@@ -1,10 +1,10 @@
 // Reads and writes images beyond the proved cases, and prints what each comes to. Held to the file stdout.
 use image::number::read_number;
 use image::number::write_number;
-use image::reading::read;
-use image::writing::write;
 use libc::STDOUT_FILENO;
+use reading::read;
 use store::Store;
+use writing::write;
 
 fn say(what: &[u8], number: u64) {
     io::write_all(STDOUT_FILENO, what);

@@ -1,48 +1,37 @@
 -- Laws of one lift made in place: it is a legal lift of the store, one more of the list.
 use mathlib.Core.List.{List, [], _∷_}
 use mathlib.Core.Path.{_≡_, refl, ap, ap₂, _∙_}
-use Prim.Native.Nat.{ℕ, _+_, _-_, _*_, _%_, _≤_, _<_}
+use Prim.Native.Nat.{ℕ, _+_, _%_, _≤_, _<_}
 use native.Mathlib.Omega.{arith}
-use lib.ListN.{length, getD, set, length-set}
+use lib.ListN.{length, set, length-set}
 use Rattle.stacks.specs.Run.{Step, done, step}
 use Rattle.stacks.specs.Moves.{lift}
+use Rattle.lifts.specs.declared.Carried.{Carried}
+use Rattle.lifts.specs.Bytes.{liftByte}
+use Rattle.lifts.specs.Carried.{CanCarry, CarriedIs}
 use Rattle.store.specs.declared.Store.{Store}
-use Rattle.store.specs.Slots.{depth, stack}
+use Rattle.store.specs.Slots.{held, depth, stack}
 use Rattle.store.specs.Sound.{Shaped}
 use Rattle.store.specs.Lifts.{Allowed, lifted}
-use Rattle.store.specs.Lists.{liftByte}
-use Rattle.store.proofs.Lifting.{built-is}
+use Rattle.store.proofs.Lifting.{carried-store}
 use Rattle.store.proofs.Played.{run-leads}
 use Rattle.store.proofs.Views.{lifted-shaped, lift-step}
-use Rattle.moves.specs.Carried.{held, CanCarry, CarriedIs}
+use Rattle.moves.specs.Put.{PutIs}
 use Rattle.moves.specs.Went.{Went}
 use Rattle.moves.proofs.Stepping.{steps-none, steps-then}
 use Rattle.moves.proofs.Writing.{set-written}
 
 -- what the code has done is the lift
-pub carried : (heights slots came : List ℕ) (a b count c : ℕ) → CanCarry heights slots a b → c ≡ liftByte (a % 16) (b % 16)
-    → CarriedIs heights slots a b count came (set (set heights a (getD heights a 0 - 1)) b (getD heights b 0 + 1))
-    (set (set slots (16 * a + (getD heights a 0 - 1)) 0) (16 * b + getD heights b 0) (getD slots (16 * a + (getD heights a 0 - 1)) 0)) (count + 1) (set came count c)
-carried heights slots came a b count c q e =
+pub put : (heights slots came : List ℕ) (a b count c : ℕ) {heights′ slots′ : List ℕ} {r : Carried} → CanCarry heights a b
+    → CarriedIs heights slots a b heights′ slots′ r → c ≡ liftByte (a % 16) (b % 16)
+    → PutIs heights slots a b count came heights′ slots′ (count + 1) (set came count c)
+put heights slots came a b count c q k e =
     let i : a % 16 ≡ a = omega (arith, q .left-below) in
     let j : b % 16 ≡ b = omega (arith, q .entered-below) in
     record {
-      store = λ m h. built-is (held m h heights slots) a b (getD heights a 0) (getD heights b 0) (q .taken) refl refl;
+      store = λ m h. carried-store (held m h heights slots) a b (k .heights-are) (k .slots-are);
       end = refl;
       byte = ap (set came count) (e ∙ ap₂ liftByte i j);
-    }
-
--- an allowed lift of a store that is held so can be made in place
-pub can-carry : (m h : ℕ) (heights slots : List ℕ) (a b : ℕ) → Shaped (held m h heights slots) → Allowed (held m h heights slots) a b → CanCarry heights slots a b
-can-carry m h heights slots a b s q =
-    record {
-      left-below = omega (arith, q .left-below, s .shafts);
-      entered-below = omega (arith, q .entered-below, s .shafts);
-      differ = q .differ;
-      taken = q .taken;
-      taken-row = omega (arith, s .heights a, s .rows);
-      room = omega (arith, q .room, s .rows);
-      bytes = s .bytes;
     }
 
 pub went-none : (s : Store) (at : ℕ) (came : List ℕ) → Shaped s → Went s at came 0 s at came
@@ -66,7 +55,7 @@ pub record CarriedOn (s : Store) (a b at : ℕ) (came : List ℕ) (t : Store) (a
   pub moved : Step (s .m) (depth s) (lift a b) (stack s) (stack t)
 
 pub carried-on : (m h : ℕ) {heights slots came heights′ slots′ out : List ℕ} {a b at at′ : ℕ} → Shaped (held m h heights slots) → Allowed (held m h heights slots) a b
-    → at < length came → CarriedIs heights slots a b at came heights′ slots′ at′ out → CarriedOn (held m h heights slots) a b at came (held m h heights′ slots′) at′ out
+    → at < length came → PutIs heights slots a b at came heights′ slots′ at′ out → CarriedOn (held m h heights slots) a b at came (held m h heights′ slots′) at′ out
 unfolding lifted
 carried-on m h {heights} {slots} {came} {a = a} {b} {at} p q f c =
     rw (c .store m h, c .end, c .byte)
@@ -74,7 +63,7 @@ carried-on m h {heights} {slots} {came} {a = a} {b} {at} p q f c =
       went = record {
         steps = record {
           lifts = liftByte a b ∷ [];
-          leads = run-leads p (lifted-shaped (held m h heights slots) a b p q) refl refl (step (lift-step (held m h heights slots) a b p q) done);
+          leads = run-leads p (lifted-shaped (held m h heights slots) a b p q) (record { shafts = refl; depths = refl }) (step (lift-step (held m h heights slots) a b p q) done);
           count = refl;
           bytes = set-written came at (liftByte a b) f;
         };

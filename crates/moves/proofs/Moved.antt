@@ -4,7 +4,8 @@ use mathlib.Core.Path.{_≡_, refl, ap}
 use Prim.Native.Nat.{ℕ, zero, suc}
 use lib.ListN.{replicate}
 use Rattle.stacks.specs.Moves.{shift}
-use Rattle.store.specs.Lists.{liftByte, liftBytes}
+use Rattle.store.specs.Lists.{liftBytes}
+use Rattle.lifts.specs.Bytes.{liftByte}
 
 pub shift-bytes : (k a b : ℕ) → liftBytes (shift k a b) ≡ replicate k (liftByte a b)
 shift-bytes zero a b = refl

@@ -1,3 +1,3 @@
-pub mod Carried
+pub mod Put
 pub mod Went
 pub mod Written

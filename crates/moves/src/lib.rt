@@ -1,40 +1,38 @@
 // Lists of lifts written as bytes: one lift made in place and written, and a lift many times over.
+use lifts::Heights;
+use lifts::Shaft;
+use lifts::Slots;
+use lifts::byte::pack;
+use lifts::carry;
 ghost use mathlib.Core.Path.{_≡_};
 ghost use Prim.Native.Nat.{_+_, _≤_, _<_};
 ghost use lib.ListN.{length, replicate};
-ghost use Rattle.store.specs.Lists.{liftByte};
+ghost use Rattle.lifts.specs.Bytes.{liftByte};
+ghost use Rattle.lifts.specs.Carried.{CanCarry};
+ghost use Rattle.moves.specs.Put.{PutIs};
 ghost use Rattle.moves.specs.Written.{written};
-ghost use Rattle.moves.specs.Carried.{CanCarry, CarriedIs};
-use store::Shaft;
-use store::byte::pack;
 
-// One lift: made in the heights and the slots of a store, and its byte written at the end of the list. It gives the new end. `hints` is where each number was
-// set down last; no promise rests on it.
-pub fn carry(
-    heights: &mut [u8; 16],
-    slots: &mut [u8; 256],
-    hints: &mut [u8; 256],
+// For each number a place: 16 for a shaft, from row 1 upward. No promise rests on it.
+pub type Hints = [u8; 256];
+
+// One lift: made in the heights and the slots of a store, and its byte written at the end of the list. It gives the new end. `hints` is
+// where each number was set down last.
+pub fn put_lift(
+    heights: &mut Heights,
+    slots: &mut Slots,
+    hints: &mut Hints,
     from: Shaft,
     to: Shaft,
     count: usize,
     out: &mut [u8],
 ) -> usize
-    requires { ⌜ CanCarry (now heights) (now slots) (from .0) (to .0) ⌝ }
+    requires { ⌜ CanCarry (now heights) (from .0) (to .0) ⌝ }
     requires { ⌜ count < length (now out) ⌝ }
-    ensures { λ r. ⌜ CarriedIs (now (heights .entry)) (now (slots .entry)) (from .0) (to .0) count (now (out .entry)) (now (heights .exit)) (now (slots .exit)) r (now (out .exit)) ⌝ }
+    ensures { λ r. ⌜ PutIs (now (heights .entry)) (now (slots .entry)) (from .0) (to .0) count (now (out .entry)) (now (heights .exit)) (now (slots .exit)) r (now (out .exit)) ⌝ }
 {
-    let a = from.0 as usize;
-    let b = to.0 as usize;
-    let top = heights[a];
-    let low = heights[b];
-    let left = 16 * a + (top as usize - 1);
-    let entered = 16 * b + low as usize;
-    let c = slots[left];
-    slots[left] = 0;
-    slots[entered] = c;
-    heights[a] = top - 1;
-    heights[b] = low + 1;
-    hints[c as usize] = entered as u8;
+    let carried = carry(heights, slots, from, to);
+    let row = carried.row;
+    hints[carried.cassette as usize] = 16 * to.0 + (row.0 - 1);
     out[count] = pack(from, to);
     count + 1
 }

@@ -6,7 +6,7 @@ use native.Mathlib.Omega.{arith}
 use borrow.Author.Tests.{ltb-true, ltb-false}
 use lib.Dec.{ltb}
 use Rattle.stacks.specs.Placing.{all, some, Outside, Next, uncover, clear, across, away}
-use Rattle.reach.proofs.Deciding.{true-false}
+use Rattle.stacks.proofs.Deciding.{true-false}
 use Rattle.placing.specs.declared.ahead.Ahead.{Ahead}
 use Rattle.placing.specs.Placed.{TightIs}
 

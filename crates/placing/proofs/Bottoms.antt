@@ -12,22 +12,23 @@ use Rattle.stacks.proofs.Bottoms.{onto-same, onto-then}
 use Rattle.stacks.proofs.RoundLaws.{Legal}
 use Rattle.stacks.proofs.Sums.{sum-le-outside}
 use Rattle.store.specs.declared.Store.{Store}
-use Rattle.store.specs.Slots.{depth, height, slot, downward, stack}
+use Rattle.store.specs.Slots.{depth, height, slot, downward, stack, rowsDown}
 use Rattle.store.specs.Sound.{Shaped}
 use Rattle.store.specs.Lifts.{Allowed}
 use Rattle.store.proofs.Rows.{stack-length}
 use Rattle.reach.proofs.Agree.{shaped-within}
 use Rattle.placing.specs.declared.Frame.{Frame}
-use Rattle.placing.specs.Frames.{storeOf, depthIn, heightIn, Fits, Held}
+use Rattle.lifts.specs.Lifting.{heightIn}
+use Rattle.placing.specs.Frames.{storeOf, depthIn, Fits, Held}
 
 module _ (s : Store) (x : ℕ) where
   pub rows-length : (k : ℕ) → length (downward s x k) ≡ k
-  unfolding downward
+  unfolding rowsDown
   rows-length zero = refl
   rows-length (suc k) = ap suc (rows-length k)
 
   pub rows-onto : (n k : ℕ) → k ≤ n → Onto (downward s x k) (downward s x n)
-  unfolding downward
+  unfolding rowsDown
   rows-onto zero k h = let e : k ≡ 0 = omega arith in onto-same (ap (downward s x) (sym e))
   rows-onto (suc n) k h =
       elim (ℕ-discrete k (suc n)) [
@@ -41,7 +42,7 @@ module _ (s : Store) (x : ℕ) where
 
   -- a row and the rows under it
   pub row-onto : (y : ℕ) → 0 < y → y ≤ height s x → Onto (slot s x y ∷ downward s x (y - 1)) (stack s x)
-  unfolding downward
+  unfolding rowsDown
   row-onto zero p h = absurd (omega arith)
   row-onto (suc k) p h = let e : suc k - 1 ≡ k = omega arith in rw e (stack-onto (suc k) h)
 
@@ -58,7 +59,7 @@ legal-allowed s {a} {b} l =
 
 module _ (f : Frame) (heights slots : List ℕ) where
   pub shaped-fits : Shaped (storeOf f heights slots) → Fits f heights
-  shaped-fits h = record { shafts = h .shafts; rows = λ x. h .rows; within = h .heights }
+  shaped-fits h = record { shafts = h .shafts; rows = h .rows; within = h .heights }
 
   pub heights-are : heightsOf (stack (storeOf f heights slots)) ≡ heightIn heights
   heights-are = fun-ext (λ x. stack-length (storeOf f heights slots) x)

@@ -18,13 +18,16 @@ use Rattle.store.specs.Sound.{Shaped}
 use Rattle.store.specs.Lifts.{Allowed}
 use Rattle.store.proofs.Rows.{stack-length, stack-top}
 use Rattle.reach.proofs.Agree.{shaped-within}
-use Rattle.moves.specs.Carried.{CanCarry, CarriedIs}
+use Rattle.lifts.specs.Carried.{CanCarry}
+use Rattle.moves.specs.Put.{PutIs}
 use Rattle.moves.specs.Written.{Steps}
 use Rattle.moves.proofs.Stepping.{steps-none, steps-then}
-use Rattle.moves.proofs.Carrying.{can-carry, CarriedOn, carried-on}
+use Rattle.store.proofs.Lifting.{can-carry}
+use Rattle.moves.proofs.Carrying.{CarriedOn, carried-on}
 use Rattle.placing.specs.declared.Frame.{Frame}
 use Rattle.placing.specs.declared.leave.Off.{Off}
-use Rattle.placing.specs.Frames.{storeOf, depthIn, heightIn, Fits, Held}
+use Rattle.lifts.specs.Lifting.{heightIn}
+use Rattle.placing.specs.Frames.{storeOf, depthIn, Fits, Held}
 use Rattle.placing.specs.Rooms.{SomeOutside}
 use Rattle.placing.specs.Left.{CanLeave, LeftIs}
 use Rattle.placing.proofs.Bottoms.{rows-length, stack-onto, row-onto, shaped-fits, one-room}
@@ -91,13 +94,13 @@ module _ {f : Frame} {heights₀ slots₀ : List ℕ} {b y at₀ : ℕ} {came he
       allowed : Allowed (storeOf f heights slots) b c
       allowed = record { left-below = q .usable; entered-below = o .usable; differ = Ne·symm (o .not-first); taken = omega (arith, u .covered, q .row); room = o .room }
 
-      pub lift-off : CanCarry heights slots b c × (at < length out)
-      lift-off = (can-carry (f .m) (f .h) heights slots b c (u .shaped) allowed, room-left)
+      pub lift-off : CanCarry heights b c × (at < length out)
+      lift-off = (can-carry (storeOf f heights slots) b c (u .shaped) allowed, room-left)
 
       pub entered-low : (c < 16) × (heightIn heights c < 16)
-      entered-low = omega (arith, allowed, u .shaped .shafts, u .shaped .rows)
+      entered-low = omega (arith, allowed, u .shaped .shafts, u .shaped .rows c)
 
-      module _ {heights′ slots′ : List ℕ} {at′ : ℕ} {out′ : List ℕ} (r : CarriedIs heights slots b c at out heights′ slots′ at′ out′) where
+      module _ {heights′ slots′ : List ℕ} {at′ : ℕ} {out′ : List ℕ} (r : PutIs heights slots b c at out heights′ slots′ at′ out′) where
         on : CarriedOn (storeOf f heights slots) b c at out (storeOf f heights′ slots′) at′ out′
         on = carried-on (f .m) (f .h) (u .shaped) allowed room-left r
 
@@ -130,7 +133,7 @@ module _ {f : Frame} {heights₀ slots₀ : List ℕ} {b y at₀ : ℕ} {came he
 
     -- it is off itself
     pub left-last : (w : Off) (o : Outside (f .m) (depthIn f) b b (heightIn heights) (w .at .shaft .0)) {heights′ slots′ out′ : List ℕ}
-        → CarriedIs heights slots b (w .at .shaft .0) at out heights′ slots′ (w .count) out′ → w .at .row .0 ≡ heightIn heights (w .at .shaft .0) + 1
+        → PutIs heights slots b (w .at .shaft .0) at out heights′ slots′ (w .count) out′ → w .at .row .0 ≡ heightIn heights (w .at .shaft .0) + 1
         → heightIn heights b ≤ y → LeftIs f heights₀ slots₀ b y at₀ came heights′ slots′ w out′
     left-last w o {heights′} {slots′} {out′} r er z =
         let c : ℕ = w .at .shaft .0 in

@@ -6,13 +6,14 @@ use native.Mathlib.Omega.{arith}
 use borrow.Author.Tests.{ltb-true, lt-ltb}
 use lib.Dec.{ltb}
 use Rattle.stacks.specs.Run.{Usable}
-use Rattle.reach.specs.Deciding.{Decides}
-use Rattle.reach.proofs.Deciding.{decides-by}
+use Rattle.stacks.specs.Deciding.{Decides}
+use Rattle.stacks.proofs.Deciding.{decides-by}
 use Rattle.stacks.specs.Placing.{Outside}
-use Rattle.store.specs.declared.Shaft.{Shaft}
+use Rattle.lifts.specs.declared.Shaft.{Shaft}
 use Rattle.placing.specs.declared.Frame.{Frame}
 use Rattle.placing.specs.declared.rooms.Search.{Search}
-use Rattle.placing.specs.Frames.{depthIn, heightIn}
+use Rattle.lifts.specs.Lifting.{heightIn}
+use Rattle.placing.specs.Frames.{depthIn}
 use Rattle.placing.specs.Rooms.{OutsideIs}
 
 -- the last test: whether c has room

@@ -19,15 +19,18 @@ use Rattle.store.specs.Sound.{Shaped}
 use Rattle.store.specs.Lifts.{Allowed}
 use Rattle.store.proofs.Rows.{stack-length}
 use Rattle.reach.proofs.Agree.{shaped-within}
-use Rattle.moves.specs.Carried.{CanCarry, CarriedIs}
+use Rattle.lifts.specs.Carried.{CanCarry}
+use Rattle.moves.specs.Put.{PutIs}
 use Rattle.moves.specs.Written.{Steps}
 use Rattle.moves.proofs.Stepping.{steps-none, steps-then}
-use Rattle.moves.proofs.Carrying.{can-carry, CarriedOn, carried-on}
+use Rattle.store.proofs.Lifting.{can-carry}
+use Rattle.moves.proofs.Carrying.{CarriedOn, carried-on}
 use Rattle.placing.specs.declared.Frame.{Frame}
 use Rattle.placing.specs.declared.Lift.{Lift}
 use Rattle.placing.specs.declared.Spot.{Spot}
 use Rattle.placing.specs.declared.ahead.Ahead.{Ahead}
-use Rattle.placing.specs.Frames.{storeOf, depthIn, heightIn, Fits, Held}
+use Rattle.lifts.specs.Lifting.{heightIn}
+use Rattle.placing.specs.Frames.{storeOf, depthIn, Fits, Held}
 use Rattle.placing.specs.Rooms.{SomeOutside}
 use Rattle.placing.specs.Placed.{CanSee, AheadIs, FollowIs, liftsAhead, CanPlace, PlacedIs}
 use Rattle.placing.proofs.Bottoms.{rows-length, stack-onto, row-onto, legal-allowed, shaped-fits, heights-are, one-room}
@@ -138,8 +141,8 @@ module _ {f : Frame} {heights₀ slots₀ : List ℕ} {a₀ y₀ b y′ at₀ : 
     pub few-ahead : (n .cover < 256) × (n .load < 256)
     few-ahead =
         let w = u .placing in (
-          omega (arith, w .covered, stack-length (storeOf f heights slots) a, u .shaped .heights a, u .shaped .rows),
-          omega (arith, w .in-the-way, stack-length (storeOf f heights slots) b, u .shaped .heights b, u .shaped .rows),
+          omega (arith, w .covered, stack-length (storeOf f heights slots) a, u .shaped .heights a, u .shaped .rows a),
+          omega (arith, w .in-the-way, stack-length (storeOf f heights slots) b, u .shaped .heights b, u .shaped .rows b),
         )
 
     pub some-outside : 0 < n .outside → SomeOutside f heights a b
@@ -173,15 +176,15 @@ module _ {f : Frame} {heights₀ slots₀ : List ℕ} {a₀ y₀ b y′ at₀ : 
       next-allowed : Allowed (storeOf f heights slots) x z
       next-allowed = legal-allowed (storeOf f heights slots) (next-legal (u .placing) next)
 
-      pub lift-ready : at₀ + liftsAhead f heights₀ a₀ y₀ b y′ ≤ length came → CanCarry heights slots x z × (at < length out)
-      lift-ready h = (can-carry (f .m) (f .h) heights slots x z (u .shaped) next-allowed, room-left h)
+      pub lift-ready : at₀ + liftsAhead f heights₀ a₀ y₀ b y′ ≤ length came → CanCarry heights x z × (at < length out)
+      lift-ready h = (can-carry (storeOf f heights slots) x z (u .shaped) next-allowed, room-left h)
 
       pub entered-room : (z < 16) × (heightIn heights z < 16)
-      entered-room = omega (arith, next-allowed, u .shaped .shafts, u .shaped .rows)
+      entered-room = omega (arith, next-allowed, u .shaped .shafts, u .shaped .rows z)
 
       -- it was made, and where the cassette is now is known
       module _ (h : at₀ + liftsAhead f heights₀ a₀ y₀ b y′ ≤ length came) {heights′ slots′ : List ℕ} {at′ : ℕ} {out′ : List ℕ}
-          (c : CarriedIs heights slots x z at out heights′ slots′ at′ out′) {p r : Spot} {l : Lift} (pa : p .shaft .0 ≡ a) (py : p .row .0 ≡ y) (lx : l .from .0 ≡ x)
+          (c : PutIs heights slots x z at out heights′ slots′ at′ out′) {p r : Spot} {l : Lift} (pa : p .shaft .0 ≡ a) (py : p .row .0 ≡ y) (lx : l .from .0 ≡ x)
           (lz : l .to .0 ≡ z) (w : FollowIs p (n .cover) l (heightIn heights z) r)
         where
           on : CarriedOn (storeOf f heights slots) x z at out (storeOf f heights′ slots′) at′ out′
@@ -271,11 +274,11 @@ module _ {f : Frame} {heights₀ slots₀ : List ℕ} {a₀ y₀ b y′ at₀ : 
       last-allowed : Allowed (storeOf f heights slots) a b
       last-allowed = legal-allowed (storeOf f heights slots) (home-legal (u .placing) (omega arith))
 
-      pub last-ready : at₀ + liftsAhead f heights₀ a₀ y₀ b y′ ≤ length came → CanCarry heights slots a b × (at < length out)
-      last-ready h = (can-carry (f .m) (f .h) heights slots a b (u .shaped) last-allowed, room-left h)
+      pub last-ready : at₀ + liftsAhead f heights₀ a₀ y₀ b y′ ≤ length came → CanCarry heights a b × (at < length out)
+      last-ready h = (can-carry (storeOf f heights slots) a b (u .shaped) last-allowed, room-left h)
 
       pub placed-last : Held f heights₀ slots₀ → CanPlace f heights₀ a₀ y₀ b y′ → at₀ + liftsAhead f heights₀ a₀ y₀ b y′ ≤ length came
-          → {heights′ slots′ : List ℕ} {at′ : ℕ} {out′ : List ℕ} → CarriedIs heights slots a b at out heights′ slots′ at′ out′
+          → {heights′ slots′ : List ℕ} {at′ : ℕ} {out′ : List ℕ} → PutIs heights slots a b at out heights′ slots′ at′ out′
           → PlacedIs f heights₀ slots₀ a₀ y₀ b y′ at₀ came heights′ slots′ at′ out′
       placed-last v q h {heights′} {slots′} {at′} {out′} c = go (carried-on (f .m) (f .h) (u .shaped) last-allowed (room-left h) c)
         where

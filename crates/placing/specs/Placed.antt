@@ -11,7 +11,8 @@ use Rattle.placing.specs.declared.Frame.{Frame}
 use Rattle.placing.specs.declared.Lift.{Lift}
 use Rattle.placing.specs.declared.Spot.{Spot}
 use Rattle.placing.specs.declared.ahead.Ahead.{Ahead}
-use Rattle.placing.specs.Frames.{storeOf, depthIn, heightIn, Held}
+use Rattle.lifts.specs.Lifting.{heightIn}
+use Rattle.placing.specs.Frames.{storeOf, depthIn, Held}
 
 -- row y of shaft a is no higher than its top, y′ of shaft b no higher than the next row; and the two shafts have no more room than the store
 pub record CanSee (f : Frame) (heights : List ℕ) (a y b y′ : ℕ) : Type 0 where

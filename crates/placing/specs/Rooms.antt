@@ -4,7 +4,8 @@ use Prim.Native.Nat.{ℕ, _≤_}
 use Rattle.stacks.specs.Placing.{Outside}
 use Rattle.placing.specs.declared.Frame.{Frame}
 use Rattle.placing.specs.declared.rooms.Search.{Search}
-use Rattle.placing.specs.Frames.{depthIn, heightIn}
+use Rattle.lifts.specs.Lifting.{heightIn}
+use Rattle.placing.specs.Frames.{depthIn}
 
 -- a shaft with room other than a and b, or there is none from `start` on
 abbrev pub OutsideIs : Frame → List ℕ → ℕ → ℕ → ℕ → Search → Type 0

@@ -4,12 +4,13 @@ use crate::Lift;
 use crate::Spot;
 use crate::rooms::aside;
 use crate::rooms::room;
-use store::Row;
-use store::Shaft;
-ghost use mathlib.Core.Path.{_≡_};
+use lifts::Heights;
+use lifts::Row;
+use lifts::Shaft;
 ghost use Prim.Native.Nat.{_+_, _<_};
 ghost use Rattle.stacks.specs.Placing.{Next};
-ghost use Rattle.placing.specs.Frames.{depthIn, heightIn, Fits};
+ghost use Rattle.lifts.specs.Lifting.{heightIn};
+ghost use Rattle.placing.specs.Frames.{depthIn, Fits};
 ghost use Rattle.placing.specs.Rooms.{SomeOutside};
 ghost use Rattle.placing.specs.Placed.{CanSee, AheadIs, TightIs, FollowIs};
 
@@ -20,7 +21,7 @@ pub struct Ahead {
     pub outside: usize,
 }
 
-pub fn look_ahead(f: Frame, heights: &[u8; 16], from: Spot, to: Spot) -> Ahead
+pub fn look_ahead(f: Frame, heights: &Heights, from: Spot, to: Spot) -> Ahead
     requires { ⌜ Fits f (now heights) ⌝ }
     requires { ⌜ CanSee f (now heights) (from .shaft .0) (from .row .0) (to .shaft .0) (to .row .0) ⌝ }
     ensures { λ r. ⌜ AheadIs f (now (heights .entry)) (from .shaft .0) (from .row .0) (to .shaft .0) (to .row .0) r ⌝ }
@@ -49,7 +50,7 @@ fn tight(n: Ahead) -> bool
 }
 
 // The next lift. Where `start` lets the search for a shaft outside begin is free.
-pub fn next_lift(f: Frame, heights: &[u8; 16], a: Shaft, b: Shaft, n: Ahead, start: Shaft) -> Lift
+pub fn next_lift(f: Frame, heights: &Heights, a: Shaft, b: Shaft, n: Ahead, start: Shaft) -> Lift
     requires { ⌜ Fits f (now heights) ⌝ }
     requires { ⌜ (0 < n .outside) × (0 < n .cover + n .load) ⌝ }
     requires { ⌜ (n .cover < 256) × (n .load < 256) ⌝ }

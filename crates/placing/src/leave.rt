@@ -2,13 +2,16 @@
 use crate::Frame;
 use crate::Spot;
 use crate::rooms::aside;
-use moves::carry;
-use store::Row;
-use store::Shaft;
-ghost use mathlib.Core.Path.{_≡_};
+use lifts::Heights;
+use lifts::Row;
+use lifts::Shaft;
+use lifts::Slots;
+use moves::Hints;
+use moves::put_lift;
 ghost use Prim.Native.Nat.{_+_, _-_, _≤_};
 ghost use lib.ListN.{length};
-ghost use Rattle.placing.specs.Frames.{heightIn, Held};
+ghost use Rattle.lifts.specs.Lifting.{heightIn};
+ghost use Rattle.placing.specs.Frames.{Held};
 ghost use Rattle.placing.specs.Left.{CanLeave, LeftIs};
 
 // Where the cassette stands now, and the end of the list.
@@ -20,9 +23,9 @@ pub struct Off {
 // Lifts what covers the cassette at `from`, and then the cassette, to other shafts.
 pub fn leave(
     f: Frame,
-    heights: &mut [u8; 16],
-    slots: &mut [u8; 256],
-    hints: &mut [u8; 256],
+    heights: &mut Heights,
+    slots: &mut Slots,
+    hints: &mut Hints,
     from: Spot,
     count: usize,
     out: &mut [u8],
@@ -38,12 +41,12 @@ pub fn leave(
     let mut start = Shaft(0);
     while from.row.0 < heights[i] {
         let c = aside(f, heights, b, b, start);
-        n = carry(heights, slots, hints, b, c, n, out);
+        n = put_lift(heights, slots, hints, b, c, n, out);
         start = c;
     }
     let shaft = aside(f, heights, b, b, start);
     let high = heights[shaft.0 as usize];
-    let end = carry(heights, slots, hints, b, shaft, n, out);
+    let end = put_lift(heights, slots, hints, b, shaft, n, out);
     Off {
         at: Spot {
             shaft,

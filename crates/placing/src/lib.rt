@@ -4,8 +4,8 @@ pub mod leave;
 pub mod place;
 pub mod rooms;
 
-use store::Row;
-use store::Shaft;
+use lifts::Row;
+use lifts::Shaft;
 
 // The shafts that may be used are those below m; h is their depth, and e slots are empty.
 pub struct Frame {

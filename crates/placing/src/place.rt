@@ -4,9 +4,11 @@ use crate::Spot;
 use crate::ahead::follow;
 use crate::ahead::look_ahead;
 use crate::ahead::next_lift;
-use moves::carry;
-use store::Shaft;
-ghost use mathlib.Core.Path.{_≡_};
+use lifts::Heights;
+use lifts::Shaft;
+use lifts::Slots;
+use moves::Hints;
+use moves::put_lift;
 ghost use Prim.Native.Nat.{_+_, _≤_};
 ghost use lib.ListN.{length};
 ghost use Rattle.placing.specs.Frames.{Held};
@@ -15,9 +17,9 @@ ghost use Rattle.placing.specs.Placed.{CanPlace, liftsAhead, PlacedIs};
 // Brings the cassette at `from` to the row `to` of another shaft, lift by lift.
 pub fn place(
     f: Frame,
-    heights: &mut [u8; 16],
-    slots: &mut [u8; 256],
-    hints: &mut [u8; 256],
+    heights: &mut Heights,
+    slots: &mut Slots,
+    hints: &mut Hints,
     from: Spot,
     to: Spot,
     count: usize,
@@ -36,10 +38,10 @@ pub fn place(
         let t = next_lift(f, heights, at.shaft, to.shaft, view, start);
         let y = t.to.0 as usize;
         let high = heights[y];
-        n = carry(heights, slots, hints, t.from, t.to, n, out);
+        n = put_lift(heights, slots, hints, t.from, t.to, n, out);
         at = follow(at, view.cover, t, high);
         start = t.to;
         view = look_ahead(f, heights, at, to);
     }
-    carry(heights, slots, hints, at.shaft, to.shaft, n, out)
+    put_lift(heights, slots, hints, at.shaft, to.shaft, n, out)
 }

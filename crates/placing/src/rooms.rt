@@ -1,13 +1,16 @@
 // Where there is room.
 use crate::Frame;
-use store::Shaft;
+use lifts::Heights;
+use lifts::Shaft;
+use store::depth_of;
 ghost use mathlib.Core.Path.{_≡_};
 ghost use Prim.Native.Nat.{_+_};
 ghost use lib.Dec.{ltb};
 ghost use Rattle.stacks.specs.Run.{Usable};
 ghost use Rattle.stacks.specs.Placing.{Outside};
-ghost use Rattle.reach.specs.Deciding.{Decides};
-ghost use Rattle.placing.specs.Frames.{depthIn, heightIn, Fits};
+ghost use Rattle.stacks.specs.Deciding.{Decides};
+ghost use Rattle.lifts.specs.Lifting.{heightIn};
+ghost use Rattle.placing.specs.Frames.{depthIn, Fits};
 ghost use Rattle.placing.specs.Rooms.{OutsideIs, SomeOutside};
 
 // A shaft that was looked for.
@@ -16,11 +19,11 @@ pub enum Search {
     Nowhere,
 }
 
-// "all of depth h"
+// The depth of a shaft.
 pub fn depth(f: Frame, x: Shaft) -> u8
     ensures { λ r. ⌜ r ≡ depthIn f (x .0) ⌝ }
 {
-    f.h
+    depth_of(f.h, x.0 as usize)
 }
 
 // Whether lifts may use a shaft.
@@ -31,7 +34,7 @@ pub fn usable(f: Frame, x: Shaft) -> bool
 }
 
 // The room of a shaft.
-pub fn room(f: Frame, heights: &[u8; 16], x: Shaft) -> usize
+pub fn room(f: Frame, heights: &Heights, x: Shaft) -> usize
     requires { ⌜ Fits f (now heights) ⌝ }
     requires { ⌜ Usable (f .m) (x .0) ⌝ }
     ensures { λ r. ⌜ r + heightIn (now (heights .entry)) (x .0) ≡ depthIn f (x .0) ⌝ }
@@ -42,7 +45,7 @@ pub fn room(f: Frame, heights: &[u8; 16], x: Shaft) -> usize
 }
 
 // Whether c has room and is another than a and b.
-pub fn is_outside(f: Frame, heights: &[u8; 16], a: Shaft, b: Shaft, c: Shaft) -> bool
+pub fn is_outside(f: Frame, heights: &Heights, a: Shaft, b: Shaft, c: Shaft) -> bool
     requires { ⌜ Fits f (now heights) ⌝ }
     ensures { λ r. ⌜ Decides r (Outside (f .m) (depthIn f) (a .0) (b .0) (heightIn (now (heights .entry))) (c .0)) ⌝ }
 {
@@ -60,8 +63,8 @@ pub fn is_outside(f: Frame, heights: &[u8; 16], a: Shaft, b: Shaft, c: Shaft) ->
     heights[i] < d
 }
 
-// The first shaft from `start` on that has room and is another than a and b.
-pub fn outside_from(f: Frame, heights: &[u8; 16], a: Shaft, b: Shaft, start: Shaft) -> Search
+// A shaft that has room and is another than a and b, or that none from `start` on is one. Which one is free.
+pub fn outside_from(f: Frame, heights: &Heights, a: Shaft, b: Shaft, start: Shaft) -> Search
     requires { ⌜ Fits f (now heights) ⌝ }
     ensures { λ r. ⌜ OutsideIs f (now (heights .entry)) (a .0) (b .0) (start .0) r ⌝ }
 {
@@ -75,8 +78,8 @@ pub fn outside_from(f: Frame, heights: &[u8; 16], a: Shaft, b: Shaft, start: Sha
     Search::Nowhere
 }
 
-// A shaft that has room and is another than a and b, where there is one: the first from `start` on, or else the first. Any start will do.
-pub fn aside(f: Frame, heights: &[u8; 16], a: Shaft, b: Shaft, start: Shaft) -> Shaft
+// A shaft that has room and is another than a and b, where there is one. Which one is free, and any start will do.
+pub fn aside(f: Frame, heights: &Heights, a: Shaft, b: Shaft, start: Shaft) -> Shaft
     requires { ⌜ Fits f (now heights) ⌝ }
     requires { ⌜ SomeOutside f (now heights) (a .0) (b .0) ⌝ }
     ensures { λ r. ⌜ Outside (f .m) (depthIn f) (a .0) (b .0) (heightIn (now (heights .entry))) (r .0) ⌝ }

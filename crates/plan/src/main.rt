@@ -2,15 +2,15 @@
 // there is none.
 use image::Read;
 use image::number::read_number;
-use image::reading::read;
 use libc::STDOUT_FILENO;
+use lifts::byte::entered_of;
+use lifts::byte::left_of;
 use planner::PlanAnswer;
 use planner::Planned;
 use planner::make_list;
 use planner::number::plan_number;
+use reading::read;
 use store::Store;
-use store::byte::entered_of;
-use store::byte::left_of;
 ghost use mathlib.Core.Path.{_≡_};
 ghost use Prim.Native.Nat.{_≤_};
 ghost use lib.ListN.{length};

@@ -4,10 +4,11 @@ use check::same;
 use libc::STDOUT_FILENO;
 use planner::make_list;
 use planner::number::plan_number;
+use replay::end_number;
+use replay::replay;
 use rules::number::reach_number;
 use rules::reachable;
 use store::Store;
-use store::number::end_number;
 
 fn say(what: &[u8], number: u64) {
     io::write_all(STDOUT_FILENO, what);
@@ -51,7 +52,7 @@ fn with(s: Store, x: usize, c: u8) -> Store {
         return s;
     }
     let mut t = s;
-    t.slots[16 * x + store::wide(top)] = c;
+    t.slots[16 * x + (top as usize)] = c;
     t.heights[x] = top + 1;
     t
 }
@@ -125,7 +126,7 @@ fn led(start: Store, goal: Store, list: &[u8], count: usize) -> bool {
     if list.len() < count {
         return false;
     }
-    let replayed = start.replay(&list[..count]);
+    let replayed = replay(start, &list[..count]);
     let end = replayed.end;
     let reached = replayed.store;
     if end_number(end) != 0 {

@@ -1,4 +1,2 @@
-pub mod Making
 pub mod PlanAnswers
 pub mod PlanExact
-pub mod PlanTwo

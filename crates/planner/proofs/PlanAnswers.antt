@@ -1,27 +1,30 @@
 -- The answers of the list maker by what was found: refused by the pair, refused for space, unreachable, and a list.
 use mathlib.Core.List.{List}
 use mathlib.Core.Path.{_≡_, refl, _∙_}
-use Prim.Native.Nat.{ℕ, _+_, _*_, _≤_}
+use Prim.Native.Nat.{ℕ, _≤_, _<_}
 use native.Mathlib.Omega.{arith}
 use lib.ListN.{length}
+use Rattle.stacks.specs.Count.{greatest}
+use Rattle.lifts.specs.Lifting.{mostRows}
 use Rattle.store.specs.declared.Store.{Store}
-use Rattle.store.specs.Slots.{cassetteCount, listSpace}
+use Rattle.store.specs.Slots.{depth, DepthsFit, deepest, cassetteCount, spaceFor, listSpace}
 use Rattle.store.proofs.Acceptance.{accepted-sound}
 use Rattle.reach.specs.Pairs.{Comparable}
 use Rattle.reach.specs.Rules.{Rule}
 use Rattle.reach.proofs.Reachability.{reachable-rule}
 use Rattle.planner.specs.declared.PlanAnswer.{PlanAnswer}
 use Rattle.planner.specs.declared.Planned.{Planned}
-use Rattle.planner.specs.Promises.{PlanSays, PlanLeaves, Untouched, RefusedPlan, MadeIs, PlanIs}
+use Rattle.making.specs.Made.{MadeIs}
+use Rattle.planner.specs.Promises.{PlanSays, PlanLeaves, Untouched, RefusedPlan, PlanIs}
 
 -- stores that can be compared have few rows and few cassettes
-pub counted-few : (s t : Store) → Comparable s t → (s .h ≤ 16) × (cassetteCount s ≤ 255)
-counted-few s t p = let a = accepted-sound s (p .start) in (a .shaped .rows, a .few)
+pub counted-few : (s t : Store) → Comparable s t → (0 < s .m) × DepthsFit (s .h) × (cassetteCount s ≤ 255)
+counted-few s t p = let a = accepted-sound s (p .start) in (a .some-shaft, a .shaped .rows, a .few)
 
 -- the list space as the code counts it
-pub space-counted : (s : Store) (h n k : ℕ) → h ≡ s .h → n ≡ cassetteCount s → k ≡ 4 * h * n + 8 * n → k ≡ listSpace s
-unfolding listSpace
-space-counted s h n k e f g = g ∙ rw (e, f)
+pub space-counted : (s : Store) (n k : ℕ) → n ≡ cassetteCount s → k ≡ spaceFor (greatest (s .m) (depth s)) n → k ≡ listSpace s
+unfolding listSpace deepest
+space-counted s n k f g = g ∙ rw f
 
 module _ (s t : Store) (came : List ℕ) where
   -- a refusal that is right is the answer

@@ -9,16 +9,17 @@ use native.Mathlib.Omega.{arith}
 use lib.Dec.{ltb}
 use lib.ListN.{length}
 use Rattle.store.specs.declared.Store.{Store}
-use Rattle.store.specs.Accept.{given, first}
+use Rattle.marks.specs.Cassettes.{given, first}
 use Rattle.store.specs.Lists.{Reachable}
 use Rattle.store.specs.Slots.{listSpace}
-use Rattle.store.proofs.Faulted.{first-stays}
+use Rattle.marks.proofs.Faulted.{first-stays}
 use Rattle.store.proofs.Space.{list-space-most}
 use Rattle.reach.specs.Pairs.{pairFault, Comparable}
 use Rattle.reach.specs.Tests.{ruleTest}
 use Rattle.reach.proofs.Sets.{comparable-faultless}
-use Rattle.rules.specs.declared.pairs.Pair.{Pair}
-use Rattle.rules.proofs.Exact.{fault-numbers, pairTold, pair-told, pair-numbered, test-true, test-false}
+use Rattle.pairs.specs.declared.Pair.{Pair}
+use Rattle.pairs.proofs.PairExact.{fault-numbers, pairTold, pair-told, pair-numbered}
+use Rattle.rules.proofs.Exact.{test-true, test-false}
 use Rattle.planner.specs.declared.PlanAnswer.{PlanAnswer}
 use Rattle.planner.specs.declared.Planned.{Planned}
 use Rattle.planner.specs.Numbers.{planNumber}

@@ -1,6 +1,6 @@
 -- The number of document 01 for each answer of the list maker; 0 where a list was made.
 use Prim.Native.Nat.{ℕ}
-use Rattle.rules.specs.Numbers.{pairFaultNumber}
+use Rattle.pairs.specs.Numbers.{pairFaultNumber}
 use Rattle.planner.specs.declared.PlanAnswer.{PlanAnswer}
 
 abbrev pub planNumber : PlanAnswer → ℕ

@@ -8,8 +8,8 @@ use Rattle.store.specs.declared.Store.{Store}
 use Rattle.store.specs.Slots.{listSpace}
 use Rattle.store.specs.Lists.{Leads, Reachable}
 use Rattle.reach.specs.Pairs.{Comparable}
-use Rattle.moves.specs.Written.{written, Steps}
-use Rattle.rules.specs.Promises.{Faulty}
+use Rattle.moves.specs.Written.{written}
+use Rattle.pairs.specs.Promises.{Faulty}
 use Rattle.planner.specs.declared.PlanAnswer.{PlanAnswer}
 use Rattle.planner.specs.declared.Planned.{Planned}
 
@@ -50,10 +50,3 @@ pub record PlanIs (s t : Store) (came out : List ℕ) (r : Planned) : Type 0 whe
 pub record RefusedPlan (a : PlanAnswer) (came out : List ℕ) (r : Planned) : Type 0 where
   pub is : r ≡ record { answer = a; count = 0 }
   pub bytes : out ≡ came
-
--- A list was made: it leads from start to goal within the list space, stands in the first bytes, and its length is the count; it is empty where start and
--- goal are the same.
-pub record MadeIs (s t : Store) (came : List ℕ) (count : ℕ) (out : List ℕ) : Type 0 where
-  pub steps : Steps s 0 came t count out
-  pub short : count ≤ listSpace s
-  pub nothing : s ≡ t → count ≡ 0

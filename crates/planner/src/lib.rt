@@ -1,16 +1,14 @@
 // The list maker (document 01, "Which goals can be reached", "Which comes first"): a list of lifts that leads from start to goal.
-pub mod make;
 pub mod number;
 
-use make::make;
-use rules::pairs::Pair;
-use rules::pairs::PairFault;
-use rules::pairs::compare;
+use making::make;
+use pairs::Pair;
+use pairs::PairFault;
+use pairs::compare;
 use rules::rule::rule_holds;
 use store::Store;
-use store::wide;
+use store::list_space;
 ghost use mathlib.Core.Path.{_≡_};
-ghost use Prim.Native.Nat.{_+_, _*_, _≤_};
 ghost use Rattle.planner.specs.Promises.{RefusedPlan, PlanIs};
 
 // How the list maker answers: a list, or refused with the fault of the pair, 10 or 15.
@@ -25,14 +23,6 @@ pub enum PlanAnswer {
 pub struct Planned {
     pub answer: PlanAnswer,
     pub count: usize,
-}
-
-// "The list space needed is 4hn + 8n bytes"
-fn list_space(h: usize, n: usize) -> usize
-    requires { ⌜ (h ≤ 16) × (n ≤ 255) ⌝ }
-    ensures { λ r. ⌜ r ≡ 4 * h * n + 8 * n ⌝ }
-{
-    4 * h * n + 8 * n
 }
 
 // A refusal: no list, and the lent bytes as they came.
@@ -61,7 +51,7 @@ pub fn make_list(start: Store, goal: Store, out: &mut [u8]) -> Planned
     if let Pair::Refused(f) = pair {
         return refused(PlanAnswer::Refused(f), out);
     }
-    if out.len() < list_space(wide(start.h), n) {
+    if out.len() < list_space(start.m, start.h, n) {
         return refused(PlanAnswer::LittleSpace, out);
     }
     if !rule_holds(start, goal, n) {

@@ -1,6 +1,6 @@
 // The number of document 01 for each answer of the list maker, 0 where a list was made.
 use crate::PlanAnswer;
-use rules::number::pair_fault_number;
+use pairs::number::pair_fault_number;
 ghost use mathlib.Core.Path.{_≡_};
 ghost use Rattle.planner.specs.Numbers.{planNumber};
 

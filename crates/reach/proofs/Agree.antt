@@ -2,25 +2,18 @@
 use mathlib.Core.List.{List, [], _∷_, _++_, append-assoc, append-nil, reverse, reverseAux, reverse-reverse}
 use mathlib.Core.Logic.{_↔_}
 use mathlib.Core.Path.{_≡_, refl, sym, ap, _∙_}
-use Prim.Native.Nat.{ℕ, zero, suc, _+_, _*_, _-_, _≤_}
-use native.Mathlib.Nat.{suc-mul}
+use Prim.Native.Nat.{ℕ, zero, suc, _+_, _-_, _≤_}
 use native.Mathlib.Omega.{arith}
 use lib.ListN.{length, drop, length-append}
 use Rattle.stacks.specs.Run.{Within}
-use Rattle.stacks.specs.Count.{sum, count, occurrences, total, empties, lowest}
+use Rattle.stacks.specs.Count.{count, occurrences, total, empties, lowest}
 use Rattle.stacks.specs.TwoStackReading.{twoStackReading}
 use Rattle.stacks.proofs.Counts.{count-append}
 use Rattle.store.specs.declared.Store.{Store}
-use Rattle.store.specs.Slots.{depth, height, slot, upward, downward, stack, cassettesBelow, cassettes, cassetteCount, emptyCount}
+use Rattle.store.specs.Slots.{depth, height, slot, rowsUp, upward, downward, stack, cassettesBelow, cassettes, cassetteCount, emptyCount, rowsDown}
 use Rattle.store.specs.Sound.{Shaped}
 use Rattle.store.proofs.Rows.{stack-length}
 use Rattle.reach.specs.Rules.{twoShaftReading, floor}
-
--- the sum of equal numbers
-sum-constant : (n k : ℕ) → sum n (λ i. k) ≡ n * k
-unfolding sum
-sum-constant zero k = omega arith
-sum-constant (suc n) k = omega (arith, sum-constant n k, suc-mul n k)
 
 module _ (s : Store) where
   -- no stack of a shaped store passes its depth
@@ -29,7 +22,7 @@ module _ (s : Store) where
 
   -- rows read upward are the rows read downward in reverse
   upward-then : (x k : ℕ) (r : List ℕ) → upward s x k ++ r ≡ reverseAux (downward s x k) r
-  unfolding upward downward
+  unfolding rowsUp rowsDown
   upward-then x zero r = refl
   upward-then x (suc k) r = append-assoc (upward s x k) (slot s x (suc k) ∷ []) r ∙ upward-then x k (slot s x (suc k) ∷ r)
 
@@ -43,7 +36,7 @@ module _ (s : Store) where
 
   -- each number stands as often among the cassettes as in the stacks
   upward-count : (c x k : ℕ) → count c (upward s x k) ≡ count c (downward s x k)
-  unfolding upward downward count
+  unfolding rowsUp rowsDown count
   upward-count c x zero = refl
   upward-count c x (suc k) = simp count-append (omega (arith, upward-count c x k))
 
@@ -58,7 +51,7 @@ module _ (s : Store) where
 
   -- n and e are the numbers of cassettes and of empty slots of the stacks
   upward-length : (x k : ℕ) → length (upward s x k) ≡ k
-  unfolding upward
+  unfolding rowsUp
   upward-length x zero = refl
   upward-length x (suc k) = simp length-append (omega (arith, upward-length x k))
 
@@ -73,11 +66,11 @@ module _ (s : Store) where
 
   pub empties-agree : empties (s .m) (depth s) (stack s) ≡ emptyCount s
   unfolding empties emptyCount
-  empties-agree = rw (sum-constant (s .m) (s .h), total-agrees)
+  empties-agree = rw total-agrees
 
   -- the lowest k of a stack are rows 1 to k
   rows-under : (x j n k : ℕ) → n ≡ j + k → drop j (downward s x n) ≡ downward s x k
-  unfolding downward
+  unfolding rowsDown
   rows-under x zero n k e = let e′ : n ≡ k = omega arith in rw e′
   rows-under x (suc j) zero k e = absurd (omega arith)
   rows-under x (suc j) (suc n) k e = rows-under x j n k (omega arith)
@@ -93,7 +86,7 @@ module _ (s : Store) where
 
   -- nothing stands in the shafts beyond m
   pub none-beyond : Shaped s → (x : ℕ) → s .m ≤ x → stack s x ≡ []
-  unfolding stack downward
+  unfolding stack rowsDown
   none-beyond p x h = rw (p .none-beyond x h)
 
 -- rows 1 to k of two stores agree exactly if the lowest k of the stacks do

@@ -1,6 +1,5 @@
 pub mod Agree
-pub mod Deciding
-pub mod NoGap
+pub mod Lasting
 pub mod Reachability
 pub mod RuleTests
 pub mod Sets

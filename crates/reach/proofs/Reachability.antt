@@ -6,16 +6,16 @@ use Prim.Native.Nat.{ℕ, zero, suc, _-_, _≤_, _<_}
 use native.Mathlib.Omega.{arith}
 use lib.ListN.{length, length-map}
 use Rattle.stacks.specs.Run.{Stacks, Lift, turned, Run, Within, Reached}
-use Rattle.stacks.specs.Count.{occurrences, total, empties, lowest}
+use Rattle.stacks.specs.Count.{greatest, occurrences, total, empties}
 use Rattle.stacks.proofs.Runs.{back, run-back}
 use Rattle.stacks.proofs.Counts.{same-total}
+use Rattle.stacks.proofs.Sums.{term-le-greatest}
 use Rattle.stacks.proofs.Stores.{reached-within}
-use Rattle.stacks.proofs.Kept.{occurrences-kept, total-kept}
-use Rattle.stacks.proofs.Floors.{room, floors-kept}
+use Rattle.stacks.proofs.Floors.{room}
 use Rattle.stacks.proofs.TwoShafts.{one-shaft, reading-kept, two-reached}
 use Rattle.stacks.proofs.Rounds.{reached-by-rounds}
 use Rattle.store.specs.declared.Store.{Store}
-use Rattle.store.specs.Slots.{depth, height, downward, stack, listSpace}
+use Rattle.store.specs.Slots.{depth, deepest, height, downward, stack, listSpace}
 use Rattle.store.specs.Sound.{Shaped, Sound}
 use Rattle.store.specs.Lists.{liftOf, liftBytes, turnedByte, backward, Leads, ended, Reachable}
 use Rattle.store.proofs.Acceptance.{accepted-sound}
@@ -24,24 +24,8 @@ use Rattle.store.proofs.Rows.{stack-length}
 use Rattle.store.proofs.Views.{same-stacks}
 use Rattle.reach.specs.Pairs.{Comparable}
 use Rattle.reach.specs.Rules.{twoShaftReading, floor, SameFloors, RuleFor, Rule}
+use Rattle.reach.proofs.Lasting.{SameLowest, leads-floors, frame-depths}
 use Rattle.reach.proofs.Agree.{shaped-within, reading-agrees, occurrences-agree, total-agrees, floor-agrees, none-beyond, lowest-rows, rows-agree}
-
--- the lowest cassettes of each shaft, as many as the empty slots leave of its depth, are the same
-abbrev pub SameLowest : Store → Store → Type 0
-SameLowest s t =
-    let e = empties (s .m) (depth s) (stack s) in
-    (x : ℕ) → x < s .m → lowest (depth s x - e) (stack s x) ≡ lowest (depth s x - e) (stack t x)
-
--- what every list keeps: how often each number stands, how many cassettes there are, and the lowest rows
-module _ {s t : Store} {bs : List ℕ} (p : Shaped s) (l : Leads s bs t) where
-  pub leads-occurrences : (c : ℕ) → occurrences (s .m) c (stack s) ≡ occurrences (s .m) c (stack t)
-  leads-occurrences = occurrences-kept (leads-run p l)
-
-  pub leads-total : total (s .m) (stack s) ≡ total (s .m) (stack t)
-  leads-total = total-kept (leads-run p l)
-
-  pub leads-floors : SameLowest s t
-  leads-floors = floors-kept (shaped-within s p) (leads-run p l)
 
 -- the bytes of a list of lifts turned about are its bytes turned about
 bytes-back : (bs : List ℕ) (r : List Lift) → liftBytes (reverseAux (map turned (map liftOf bs)) r) ≡ reverseAux (map turnedByte bs) (liftBytes r)
@@ -54,8 +38,8 @@ leads-back {s} {t} {bs} p l =
     let ls : List Lift = back (map liftOf bs) in
     let f = leads-frame l in
     let r : Run (t .m) (depth t) (stack t) ls (stack s)
-    = subst₂ (λ (m h : ℕ). Run m (λ x. h) (stack t) ls (stack s)) (sym (f .0)) (sym (f .1)) (run-back (shaped-within s p) (leads-run p l)) in
-    rw bytes-back at (run-leads (leads-shaped p l) p (f .0) (f .1) r)
+    = subst₂ (λ (m : ℕ) (d : ℕ → ℕ). Run m d (stack t) ls (stack s)) (f .shafts) (frame-depths f) (run-back (shaped-within s p) (leads-run p l)) in
+    rw bytes-back at (run-leads (leads-shaped p l) p (record { shafts = sym (f .shafts); depths = sym (f .depths) }) r)
 
 -- a list within the list space
 pub record ShortList (s t : Store) : Type 0 where
@@ -75,13 +59,13 @@ module _ (s t : Store) (p : Comparable s t) where
   start-within = shaped-within s (start .shaped)
 
   goal-within : Within (s .m) (depth s) (stack t)
-  goal-within = rw (p .shafts, p .depth) (shaped-within t (goal .shaped))
+  goal-within = rw (p .frame .shafts, frame-depths (p .frame)) (shaped-within t (goal .shaped))
 
   pub beyond : (x : ℕ) → s .m ≤ x → stack s x ≡ stack t x
-  beyond x h = none-beyond s (start .shaped) x h ∙ sym (none-beyond t (goal .shaped) x (rw (p .shafts) at h))
+  beyond x h = none-beyond s (start .shaped) x h ∙ sym (none-beyond t (goal .shaped) x (rw (p .frame .shafts) at h))
 
   pub same-occurrences : (c : ℕ) → occurrences (s .m) c (stack s) ≡ occurrences (s .m) c (stack t)
-  same-occurrences c = occurrences-agree s c ∙ p .cassettes c ∙ rw (p .shafts) (sym (occurrences-agree t c))
+  same-occurrences c = occurrences-agree s c ∙ p .cassettes c ∙ rw (p .frame .shafts) (sym (occurrences-agree t c))
 
   same-empties : empties (s .m) (depth s) (stack s) ≡ empties (s .m) (depth s) (stack t)
   unfolding empties
@@ -116,7 +100,7 @@ module _ (s t : Store) (p : Comparable s t) where
   short-list : Reached (s .m) (depth s) (stack s) (stack t) (listSpace s) → ShortList s t
   short-list r = record {
     lifts = liftBytes (r .lifts);
-    leads = run-leads (start .shaped) (goal .shaped) (p .shafts) (p .depth) (r .runs);
+    leads = run-leads (start .shaped) (goal .shaped) (p .frame) (r .runs);
     short = rw length-map (r .short);
   }
 
@@ -129,10 +113,10 @@ module _ (s t : Store) (p : Comparable s t) where
       (two-reached (rw e at goal-within) (λ x h. beyond x (omega arith)) (sym (reading-agrees s) ∙ r ∙ reading-agrees t)))
 
   more-shafts : 3 ≤ s .m → SameFloors s t → Reached (s .m) (depth s) (stack s) (stack t) (listSpace s)
-  unfolding listSpace
+  unfolding listSpace deepest
   more-shafts h r =
       rw (total-agrees s) at
-      (reached-by-rounds (s .m) (depth s) (s .h) h (λ x i. start .some-row) (λ x i. omega arith) (stack s) (stack t) start-within goal-within beyond same-occurrences
+      (reached-by-rounds (s .m) (depth s) (greatest (s .m) (depth s)) h (start .some-row) (term-le-greatest (s .m) (depth s)) (stack s) (stack t) start-within goal-within beyond same-occurrences
       (floors-agree .0 r))
 
   -- what can be reached
@@ -155,7 +139,7 @@ module _ (s t : Store) (p : Comparable s t) where
       go : (m : ℕ) → s .m ≡ m → RuleFor m s t
       go zero e = absurd (omega (arith, start .some-shaft))
       go (suc zero) e =
-          same-stacks s t (start .shaped) (goal .shaped) (p .shafts) (p .depth) λ x. ap (λ (S : Stacks). S x) (one-shaft (run-at e))
+          same-stacks s t (start .shaped) (goal .shaped) (p .frame) λ x. ap (λ (S : Stacks). S x) (one-shaft (run-at e))
       go (suc (suc zero)) e = reading-agrees s ∙ reading-kept (run-at e) ∙ sym (reading-agrees t)
       go (suc (suc (suc k))) e = floors-agree .1 (leads-floors (start .shaped) (r .leads))
 

@@ -11,12 +11,13 @@ use Rattle.store.specs.declared.Store.{Store}
 use Rattle.store.specs.Slots.{upward}
 use Rattle.store.specs.Accept.{allBelow}
 use Rattle.store.specs.Lists.{Reachable}
-use Rattle.store.proofs.Faulted.{both-true, all-true, all-of}
-use Rattle.reach.specs.Deciding.{Decides}
+use Rattle.marks.proofs.Faulted.{both-true}
+use Rattle.store.proofs.AllBelow.{all-true, all-of}
+use Rattle.stacks.specs.Deciding.{Decides}
 use Rattle.reach.specs.Pairs.{Comparable}
 use Rattle.reach.specs.Rules.{twoShaftReading, floor, RuleFor, Rule}
 use Rattle.reach.specs.Tests.{sameList, sameStore, sameFloor, ruleTestFor, ruleTest}
-use Rattle.reach.proofs.Deciding.{decides-as, decides-by, decided}
+use Rattle.stacks.proofs.Deciding.{decides-as, decides-by, decided}
 use Rattle.reach.proofs.Reachability.{reachable-rule, rule-reaches}
 
 same-list : (l r : List ℕ) → sameList l r ≡ true → l ≡ r

@@ -1,73 +1,68 @@
--- None of the numbers of two stores applies exactly if they are comparable: where no number stands twice, equal sets are equal counts.
-use borrow.Author.Tests.{eq-eqb, ne-eqb, eqb-true, ltb-true, lt-ltb}
+-- None of the numbers of two stores applies exactly if they are comparable.
+use borrow.Author.Tests.{eq-eqb, ne-eqb, eqb-true}
 use mathlib.Core.Bool.{Bool, true, false, not, _&&_}
 use mathlib.Core.List.{List, [], _∷_}
 use mathlib.Core.Path.{_≡_, refl, ap}
-use Prim.Native.Nat.{ℕ, _≤_, _<_}
+use Prim.Native.Nat.{ℕ, _<_}
 use native.Mathlib.Decide.{ℕ-discrete, decLt}
 use native.Mathlib.Omega.{arith}
-use lib.Dec.{ltb, eqb}
+use lib.Dec.{eqb}
 use Rattle.stacks.specs.Count.{count, one}
-use Rattle.stacks.proofs.Counts.{count-own}
+use Rattle.marks.specs.Cassettes.{given}
+use Rattle.marks.proofs.Faulted.{first-none, not-given, both-true}
 use Rattle.store.specs.declared.Store.{Store}
-use Rattle.store.specs.Slots.{cassettes}
-use Rattle.store.specs.Accept.{given, storeFault, Accepted}
-use Rattle.store.proofs.Acceptance.{accepted-sound}
-use Rattle.store.proofs.Faulted.{first-none, not-given, both-true}
-use Rattle.reach.specs.Pairs.{allIn, frameFault, cassettesFault, pairFault, SameCassettes, Comparable}
+use Rattle.store.specs.Slots.{SameFrame, cassettes}
+use Rattle.store.specs.Accept.{storeFault}
+use Rattle.reach.specs.Pairs.{agreeOn, frameFault, cassettesFault, pairFault, SameCassettes, Comparable}
 
--- what stands in the one list stands in the other
-abbrev Subset : List ℕ → List ℕ → Type 0
-Subset k l = (c : ℕ) → 0 < count c k → 0 < count c l
-
-allIn-subset : (k l : List ℕ) → allIn k l ≡ true → Subset k l
-unfolding allIn count
-allIn-subset [] l e c h = absurd (omega arith)
-allIn-subset (x ∷ k) l e c h =
-    let p = both-true (ltb 0 (count x l)) (allIn k l) e in
+agree-true : (r k l : List ℕ) → agreeOn r k l ≡ true → (c : ℕ) → 0 < count c r → count c k ≡ count c l
+unfolding agreeOn count
+agree-true [] k l e c h = absurd (omega arith)
+agree-true (x ∷ r) k l e c h =
+    let p = both-true (eqb (count x k) (count x l)) (agreeOn r k l) e in
     elim (ℕ-discrete c x) [
-      | yes q ↦ rw q (ltb-true 0 (count x l) (p .0))
-      | no q ↦ allIn-subset k l (p .1) c (omega (arith, ap one (ne-eqb c x q)))
+      | yes q ↦ rw q (eqb-true (count x k) (count x l) (p .0))
+      | no q ↦ agree-true r k l (p .1) c (omega (arith, ap one (ne-eqb c x q)))
     ]
 
-subset-allIn : (k l : List ℕ) → Subset k l → allIn k l ≡ true
-unfolding allIn count
-subset-allIn [] l h = refl
-subset-allIn (x ∷ k) l h = simp (lt-ltb 0 (count x l) (h x (count-own x k)), subset-allIn k l λ c i. h c (omega arith))
+agree-on : (r k l : List ℕ) → ((c : ℕ) → count c k ≡ count c l) → agreeOn r k l ≡ true
+unfolding agreeOn
+agree-on [] k l h = refl
+agree-on (x ∷ r) k l h = simp (eq-eqb (count x k) (count x l) (h x), agree-on r k l h)
 
--- lists in which no number stands twice and that hold the same numbers hold them equally often
-same-counts : (k l : List ℕ) → ((c : ℕ) → count c k ≤ 1) → ((c : ℕ) → count c l ≤ 1) → Subset k l → Subset l k
-    → (c : ℕ) → count c k ≡ count c l
-same-counts k l p q i j c =
-    elim (decLt 0 (count c k)) [
-      | yes h ↦ omega (arith, p c, q c, i c h)
-      | no h ↦ elim (decLt 0 (count c l)) [ yes g ↦ omega (arith, j c g) | no g ↦ omega arith ]
-    ]
-
--- number 9 applies to accepted stores exactly if not
+-- number 9 applies exactly if not every number stands as often in the one store as in the other
 pub same-cassettes : (s t : Store) → SameCassettes s t → cassettesFault s t ≡ 0
 unfolding cassettesFault
-same-cassettes s t h =
-    rw (
-      subset-allIn (cassettes s) (cassettes t) (λ c i. omega (arith, h c)),
-      subset-allIn (cassettes t) (cassettes s) (λ c i. omega (arith, h c)),
-    )
+same-cassettes s t h = rw (agree-on (cassettes s) (cassettes s) (cassettes t) h, agree-on (cassettes t) (cassettes s) (cassettes t) h)
 
-pub cassettes-same : (s t : Store) → Accepted s → Accepted t → cassettesFault s t ≡ 0 → SameCassettes s t
+pub cassettes-same : (s t : Store) → cassettesFault s t ≡ 0 → SameCassettes s t
 unfolding cassettesFault
-cassettes-same s t p q e =
-    let w = both-true (allIn (cassettes s) (cassettes t)) (allIn (cassettes t) (cassettes s)) (not-given _ 8 e) in
-    same-counts (cassettes s) (cassettes t) (accepted-sound s p .once) (accepted-sound t q .once)
-    (allIn-subset (cassettes s) (cassettes t) (w .0)) (allIn-subset (cassettes t) (cassettes s) (w .1))
+cassettes-same s t e c =
+    let k = cassettes s in
+    let l = cassettes t in
+    let w = both-true (agreeOn k k l) (agreeOn l k l) (not-given _ 8 e) in
+    elim (decLt 0 (count c k)) [
+      | yes h ↦ agree-true k k l (w .0) c h
+      | no h ↦ elim (decLt 0 (count c l)) [ yes g ↦ agree-true l k l (w .1) c g | no g ↦ omega arith ]
+    ]
 
-pub other-cassettes : (s t : Store) → Accepted s → Accepted t → (SameCassettes s t → ⊥) → cassettesFault s t ≡ 9
+pub other-cassettes : (s t : Store) → (SameCassettes s t → ⊥) → cassettesFault s t ≡ 9
 unfolding cassettesFault
-other-cassettes s t p q n =
-    go (allIn (cassettes s) (cassettes t) && allIn (cassettes t) (cassettes s)) (λ e. n (cassettes-same s t p q e))
+other-cassettes s t n =
+    go (agreeOn (cassettes s) (cassettes s) (cassettes t) && agreeOn (cassettes t) (cassettes s) (cassettes t)) (λ e. n (cassettes-same s t e))
   where
     go : (b : Bool) → (given (not b) 9 ≡ 0 → ⊥) → given (not b) 9 ≡ 9
     go true n = absurd (n refl)
     go false n = refl
+
+-- number 8 applies exactly if two stores have not one frame
+pub frames-agree : (s t : Store) → SameFrame s t → frameFault s t ≡ 0
+frames-agree s t f = simp (eq-eqb _ _ (f .shafts), eq-eqb _ _ (f .depths))
+
+pub agreed-frames : (s t : Store) → frameFault s t ≡ 0 → SameFrame s t
+agreed-frames s t e =
+    let f = both-true (eqb (s .m) (t .m)) (eqb (s .h) (t .h)) (not-given _ 7 e) in
+    record { shafts = eqb-true (s .m) (t .m) (f .0); depths = eqb-true (s .h) (t .h) (f .1) }
 
 -- none of the numbers of two stores applies exactly if they are comparable
 pub comparable : (s t : Store) → pairFault s t ≡ 0 → Comparable s t
@@ -76,16 +71,9 @@ comparable s t e =
     let a = first-none (storeFault s) _ e in
     let b = first-none (storeFault t) _ (a .1) in
     let c = first-none (frameFault s t) (cassettesFault s t) (b .1) in
-    let f = both-true (eqb (s .m) (t .m)) (eqb (s .h) (t .h)) (not-given _ 7 (c .0)) in
-    record {
-      start = a .0;
-      goal = b .0;
-      shafts = eqb-true (s .m) (t .m) (f .0);
-      depth = eqb-true (s .h) (t .h) (f .1);
-      cassettes = cassettes-same s t (a .0) (b .0) (c .1);
-    }
+    record { start = a .0; goal = b .0; frame = agreed-frames s t (c .0); cassettes = cassettes-same s t (c .1) }
 
 pub comparable-faultless : (s t : Store) → Comparable s t → pairFault s t ≡ 0
 unfolding pairFault
 comparable-faultless s t p =
-    simp (p .start, p .goal, eq-eqb _ _ (p .shafts), eq-eqb _ _ (p .depth), same-cassettes s t (p .cassettes))
+    simp (p .start, p .goal, frames-agree s t (p .frame), same-cassettes s t (p .cassettes))

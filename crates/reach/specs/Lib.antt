@@ -1,4 +1,3 @@
-pub mod Deciding
 pub mod Pairs
 pub mod Rules
 pub mod Tests

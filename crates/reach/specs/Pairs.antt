@@ -3,25 +3,30 @@ use mathlib.Core.Bool.{Bool, true, not, _&&_}
 use mathlib.Core.List.{List, [], _∷_}
 use mathlib.Core.Path.{_≡_}
 use Prim.Native.Nat.{ℕ}
-use lib.Dec.{ltb, eqb}
+use lib.Dec.{eqb}
 use Rattle.stacks.specs.Count.{count}
+use Rattle.marks.specs.Cassettes.{given, first}
 use Rattle.store.specs.declared.Store.{Store}
-use Rattle.store.specs.Slots.{cassettes}
-use Rattle.store.specs.Accept.{Accepted, given, first, storeFault}
+use Rattle.store.specs.Slots.{SameFrame, cassettes}
+use Rattle.store.specs.Accept.{Accepted, storeFault}
 
 -- "8. Start and goal differ in m or h."
+abbrev pub sameFrame : Store → Store → Bool
+sameFrame s t = eqb (s .m) (t .m) && eqb (s .h) (t .h)
+
 abbrev pub frameFault : Store → Store → ℕ
-frameFault s t = given (not (eqb (s .m) (t .m) && eqb (s .h) (t .h))) 8
+frameFault s t = given (not (sameFrame s t)) 8
 
--- every cassette of the one list stands in the other
-unfoldable pub allIn : List ℕ → List ℕ → Bool
-allIn [] l = true
-allIn (c ∷ k) l = ltb 0 (count c l) && allIn k l
+-- every number of a list stands as often in the one list as in the other
+unfoldable pub agreeOn : List ℕ → List ℕ → List ℕ → Bool
+agreeOn [] k l = true
+agreeOn (c ∷ r) k l = eqb (count c k) (count c l) && agreeOn r k l
 
--- "9. Start and goal differ in their set of cassettes."
+-- "9. Start and goal differ in their set of cassettes.": in how often each number stands
 unfoldable pub cassettesFault : Store → Store → ℕ
-unfolding allIn
-cassettesFault s t = given (not (allIn (cassettes s) (cassettes t) && allIn (cassettes t) (cassettes s))) 9
+unfolding agreeOn
+cassettesFault s t =
+    given (not (agreeOn (cassettes s) (cassettes s) (cassettes t) && agreeOn (cassettes t) (cassettes s) (cassettes t))) 9
 
 -- "For two stores: the start, the goal, 8, 9"
 unfoldable pub pairFault : Store → Store → ℕ
@@ -36,6 +41,5 @@ SameCassettes s t = (c : ℕ) → count c (cassettes s) ≡ count c (cassettes t
 pub record Comparable (s t : Store) : Type 0 where
   pub start : Accepted s
   pub goal : Accepted t
-  pub shafts : s .m ≡ t .m
-  pub depth : s .h ≡ t .h
+  pub frame : SameFrame s t
   pub cassettes : SameCassettes s t

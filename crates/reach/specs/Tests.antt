@@ -6,6 +6,7 @@ use lib.Dec.{eqb}
 use Rattle.store.specs.declared.Store.{Store}
 use Rattle.store.specs.Slots.{upward}
 use Rattle.store.specs.Accept.{allBelow}
+use Rattle.reach.specs.Pairs.{sameFrame}
 use Rattle.reach.specs.Rules.{twoShaftReading, floor}
 
 unfoldable pub sameList : List ℕ → List ℕ → Bool
@@ -16,7 +17,7 @@ sameList (x ∷ l) (y ∷ r) = eqb x y && sameList l r
 
 unfoldable pub sameStore : Store → Store → Bool
 unfolding sameList
-sameStore s t = (eqb (s .m) (t .m) && eqb (s .h) (t .h)) && (sameList (s .heights) (t .heights) && sameList (s .slots) (t .slots))
+sameStore s t = sameFrame s t && (sameList (s .heights) (t .heights) && sameList (s .slots) (t .slots))
 
 -- shaft x has the same rows that never change
 unfoldable pub sameFloor : Store → Store → ℕ → Bool

@@ -15,7 +15,8 @@ use Rattle.store.proofs.Views.{same-stacks}
 use Rattle.moves.specs.Written.{Steps}
 use Rattle.moves.proofs.Stepping.{steps-none, steps-then}
 use Rattle.placing.specs.declared.Frame.{Frame}
-use Rattle.placing.specs.Frames.{storeOf, heightIn, Fits}
+use Rattle.lifts.specs.Lifting.{heightIn}
+use Rattle.placing.specs.Frames.{storeOf, Fits}
 use Rattle.placing.proofs.Bottoms.{shaped-fits}
 use Rattle.choices.specs.declared.Round.{Round}
 use Rattle.choices.specs.Choices.{Finished, RoundFor, SomeRound}
@@ -88,7 +89,7 @@ module _ {f : Frame} {tops goal done₀ heights₀ slots₀ came done heights sl
         let same : stack (storeOf f heights slots) ≡ stack (storeOf f tops goal)
         = finished (u .way .halfway) (λ x p. omega (arith, z x p, passed-length goal done x, stack-length (storeOf f tops goal) x)) in
         let store : storeOf f heights slots ≡ storeOf f tops goal
-        = same-stacks (storeOf f heights slots) (storeOf f tops goal) (u .way .held .shaped) (u .way .goal-shaped) refl refl (λ x. ap (λ (S : Stacks). S x) same) in
+        = same-stacks (storeOf f heights slots) (storeOf f tops goal) (u .way .held .shaped) (u .way .goal-shaped) (record { shafts = refl; depths = refl }) (λ x. ap (λ (S : Stacks). S x) same) in
         record {
           store = store;
           passed = z;

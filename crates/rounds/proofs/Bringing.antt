@@ -16,7 +16,8 @@ use Rattle.reach.proofs.Agree.{shaped-within}
 use Rattle.moves.proofs.Carrying.{went-then, went-within}
 use Rattle.placing.specs.declared.Frame.{Frame}
 use Rattle.placing.specs.declared.Spot.{Spot}
-use Rattle.placing.specs.Frames.{storeOf, depthIn, heightIn, Held}
+use Rattle.lifts.specs.Lifting.{heightIn}
+use Rattle.placing.specs.Frames.{storeOf, depthIn, Held}
 use Rattle.placing.specs.Placed.{liftsAhead, CanPlace, PlacedIs}
 use Rattle.placing.proofs.Bottoms.{rows-length, stack-onto}
 use Rattle.choices.specs.Choices.{wantedIn}
@@ -24,7 +25,7 @@ use Rattle.turns.specs.declared.Owed.{Owed}
 use Rattle.turns.specs.declared.Turned.{Turned}
 use Rattle.turns.specs.Turning.{passedRows, OnTheWay, Ready, OwedIs, TurnedIs}
 use Rattle.rounds.specs.Serving.{mostLifts, OneMore, ServedOwed, ServedIs}
-use Rattle.turns.proofs.Way.{rows-under, passed-length, slot-in, done-now, done-floor, tops-deep, way-after, one-more}
+use Rattle.turns.proofs.Way.{rows-under, passed-length, done-now, done-floor, tops-deep, way-after, one-more}
 
 -- rows that are passed stay in other shafts too, under whatever was set on them
 module _ {f : Frame} {tops goal done heights slots : List ℕ} {at to : Spot} (r : Ready f tops goal done heights slots at to) where
@@ -66,7 +67,7 @@ module _ {f : Frame} {tops goal done heights slots : List ℕ} {at to : Spot} (r
     where
       -- the cassette stands on what is passed
       pub stands-there : Onto (wantedIn goal done (to .shaft .0) ∷ passedRows goal done (to .shaft .0)) (stack (storeOf f heights′ slots′) (to .shaft .0))
-      stands-there = rw (slot-in f heights slots (at .shaft .0) (at .row .0), r .stands .shows, under-to) at (p .placed)
+      stands-there = rw (r .stands .shows, under-to) at (p .placed)
 
       pub way-placed : OnTheWay f tops goal done heights′ slots′
       way-placed =

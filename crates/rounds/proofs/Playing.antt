@@ -1,7 +1,7 @@
 -- A lent top row filled again, and the whole round.
 use mathlib.Core.List.{List}
 use mathlib.Core.Path.{_≡_, refl, sym, ap, _∙_, subst}
-use Prim.Native.Nat.{ℕ, suc, _+_, _*_, _-_, _≤_}
+use Prim.Native.Nat.{ℕ, suc, _+_, _*_, _-_, _≤_, _<_}
 use native.Mathlib.Omega.{arith}
 use lib.ListN.{length, set}
 use Rattle.stacks.proofs.Sums.{everywhere}
@@ -10,22 +10,26 @@ use Rattle.stacks.proofs.PlacingLaws.{left-plain}
 use Rattle.moves.proofs.Carrying.{went-none, went-then, went-within}
 use Rattle.placing.specs.declared.Frame.{Frame}
 use Rattle.placing.specs.declared.Spot.{Spot}
-use Rattle.placing.specs.Frames.{storeOf, depthIn, heightIn, Fits, Held}
+use Rattle.lifts.specs.Lifting.{heightIn}
+use Rattle.placing.specs.Frames.{storeOf, depthIn, Fits, Held}
 use Rattle.placing.specs.Placed.{liftsAhead, CanPlace, PlacedIs}
 use Rattle.placing.proofs.Bottoms.{rows-length, shaped-fits}
 use Rattle.store.proofs.Rows.{stack-length}
-use Rattle.store.specs.declared.Shaft.{Shaft}
+use Rattle.lifts.specs.declared.Shaft.{Shaft}
 use Rattle.choices.specs.Choices.{wantedIn, Stands, Somewhere, RoundFor}
 use Rattle.turns.specs.declared.Owed.{Owed}
 use Rattle.turns.specs.declared.Turned.{Turned}
 use Rattle.turns.specs.Turning.{OnTheWay, Ready}
 use Rattle.rounds.specs.Serving.{deepest, Lent, ServedOwed, ServedIs, CanRestore, GrownIs}
-use Rattle.turns.proofs.Way.{passed-length, stands-over, done-now, somewhere}
+use Rattle.turns.proofs.Way.{passed-length, stands-over, done-now, tops-deep, somewhere}
 use Rattle.turns.proofs.Turns.{see}
 use Rattle.rounds.proofs.Bringing.{can-place, one-more-set, way-grown}
-use Rattle.rounds.proofs.Servings.{already}
+use Rattle.rounds.proofs.Servings.{heights-deepest, already}
 
 module _ {f : Frame} {tops goal done heights slots : List ℕ} {c : Shaft} (w : OnTheWay f tops goal done heights slots) (k : CanRestore f tops done (c .0)) where
+  pub restore-row : (c .0 < 16) × (heightIn done (c .0) < 16)
+  restore-row = (omega (arith, k .usable, w .held .shaped .shafts), omega (arith, k .wanted, tops-deep w (c .0), w .held .shaped .rows (c .0)))
+
   pub seek-ready : (v : ℕ) → v ≡ wantedIn goal done (c .0) → Fits f heights × Somewhere f heights slots done v
   seek-ready v e = (shaped-fits f heights slots (w .held .shaped), rw e (somewhere w (c .0) (k .usable) (k .wanted)))
 
@@ -38,7 +42,7 @@ module _ {f : Frame} {tops goal done heights slots : List ℕ} {c : Shaft} (w : 
         → GrownIs f tops goal done heights slots (c .0) (deepest f + 1) count came (set done (c .0) (heightIn done (c .0) + 1)) heights slots count came
     restored-there count came same =
         let z = already w round-for count came (heightIn done (c .0) + 1) refl same
-        (omega (arith, s .unpassed, s .standing, w .held .shaped .heights (at .shaft .0), k .top, ap (heightIn done) same)) in
+        (omega (arith, s .unpassed, s .standing, w .held .shaped .heights (at .shaft .0), k .top, ap (heightIn done) same, ap (depthIn f) same)) in
         record { went = went-within (omega arith) (went-none (storeOf f heights slots) count came (w .held .shaped)); way = z .way; more = z .owed }
 
     -- it is elsewhere
@@ -62,7 +66,7 @@ module _ {f : Frame} {tops goal done heights slots : List ℕ} {c : Shaft} (w : 
             arith,
             left-plain (heightIn heights (at .shaft .0) - at .row .0) (suc (heightIn heights (c .0)) - (heightIn done (c .0) + 1))
                 (f .e + (heightIn heights (at .shaft .0) + heightIn heights (c .0)) - (depthIn f (at .shaft .0) + depthIn f (c .0))) plain,
-            w .held .shaped .heights (at .shaft .0),
+            heights-deepest f heights slots (w .held .shaped) (at .shaft .0),
             w .held .shaped .heights (c .0),
             k .top,
             s .unpassed,

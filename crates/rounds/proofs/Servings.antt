@@ -2,20 +2,23 @@
 use mathlib.Core.List.{List, _∷_}
 use mathlib.Core.Path.{_≡_, sym, ap, _∙_, subst}
 use Prim.Native.Nat.{ℕ, _+_, _*_, _-_, _≤_, _<_}
+use native.Mathlib.Decide.{decLt}
 use native.Mathlib.Omega.{arith}
 use lib.ListN.{length, set, length-set}
 use lib.Seq.{getD-set-same, getD-set-other}
 use Rattle.stacks.specs.Placing.{Onto, Over}
 use Rattle.stacks.proofs.Bottoms.{onto-then}
-use Rattle.stacks.proofs.Sums.{everywhere}
+use Rattle.stacks.proofs.Sums.{everywhere, term-le-greatest}
 use Rattle.stacks.proofs.RoundLaws.{in-place}
 use Rattle.store.specs.Slots.{downward, stack}
+use Rattle.store.specs.Sound.{Shaped}
 use Rattle.store.proofs.Played.{leads-run}
 use Rattle.reach.proofs.Agree.{shaped-within}
 use Rattle.moves.proofs.Carrying.{went-none, went-then, went-within}
 use Rattle.placing.specs.declared.Frame.{Frame}
 use Rattle.placing.specs.declared.leave.Off.{Off}
-use Rattle.placing.specs.Frames.{storeOf, heightIn, Held}
+use Rattle.lifts.specs.Lifting.{heightIn}
+use Rattle.placing.specs.Frames.{storeOf, depthIn, Held}
 use Rattle.placing.specs.Left.{CanLeave, LeftIs}
 use Rattle.placing.proofs.Bottoms.{rows-length}
 use Rattle.choices.specs.declared.Round.{Round}
@@ -24,12 +27,20 @@ use Rattle.turns.specs.declared.Owed.{Owed}
 use Rattle.turns.specs.declared.Turned.{Turned}
 use Rattle.turns.specs.Turning.{passedRows, OnTheWay, Ready}
 use Rattle.rounds.specs.Serving.{deepest, mostLifts, OneMore, ServedIs}
-use Rattle.turns.proofs.Way.{rows-under, passed-length, slot-in, stands-over, done-now, done-floor, tops-deep, way-after, one-more}
+use Rattle.turns.proofs.Way.{rows-under, passed-length, stands-over, done-now, done-floor, tops-deep, way-after, one-more}
+
+-- no shaft is higher than the deepest is deep
+pub heights-deepest : (f : Frame) (heights slots : List ℕ) → Shaped (storeOf f heights slots) → (x : ℕ) → heightIn heights x ≤ deepest f
+heights-deepest f heights slots p x =
+    elim (decLt x (f .m)) [
+      | yes h ↦ omega (arith, p .heights x, term-le-greatest (f .m) (depthIn f) x h)
+      | no h ↦ omega (arith, p .none-beyond x (omega arith))
+    ]
 
 module _ {f : Frame} {tops goal done heights slots : List ℕ} {q : Round} (w : OnTheWay f tops goal done heights slots) (r : RoundFor f tops goal done heights slots q) where
   -- the next row of the shaft can be counted
   pub next-row : (q .to .0 < 16) × (heightIn done (q .to .0) < 16)
-  next-row = (omega (arith, r .usable, w .held .shaped .shafts), omega (arith, r .wanted, tops-deep w (q .to .0), w .held .shaped .rows))
+  next-row = (omega (arith, r .usable, w .held .shaped .shafts), omega (arith, r .wanted, tops-deep w (q .to .0), w .held .shaped .rows (q .to .0)))
 
   set-more : (row : ℕ) → row ≡ heightIn done (q .to .0) + 1 → OneMore (q .to .0) done (set done (q .to .0) row)
   set-more row e = (getD-set-same done (q .to .0) row 0 (omega (arith, next-row, w .sized)) ∙ omega arith, λ x n. getD-set-other done (q .to .0) x row 0 n)
@@ -55,7 +66,7 @@ module _ {f : Frame} {tops goal done heights slots : List ℕ} {q : Round} (w : 
 
   module _ (count : ℕ) (came : List ℕ) (most : count + (3 * deepest f + 4) ≤ length came) (row : ℕ) (e : row ≡ heightIn done (q .to .0) + 1) where
     rows-most : (x : ℕ) → heightIn heights x ≤ deepest f
-    rows-most x = w .held .shaped .heights x
+    rows-most = heights-deepest f heights slots (w .held .shaped)
 
     -- it stands in another shaft
     module _ (differ : q .from .shaft .0 ≡ q .to .0 → ⊥) where
@@ -117,7 +128,7 @@ module _ {f : Frame} {tops goal done heights slots : List ℕ} {q : Round} (w : 
             usable = l .usable;
             unpassed = omega (arith, l .over, done-now w (off .at .shaft .0));
             standing = omega (arith, l .row);
-            shows = sym (slot-in f heights′ slots′ (off .at .shaft .0) (off .at .row .0)) ∙ l .shows ∙ slot-in f heights slots (q .from .shaft .0) (q .from .row .0) ∙ r .found .shows;
+            shows = l .shows ∙ r .found .shows;
           };
           differ = λ z. l .differ (z ∙ sym same);
         }

@@ -3,12 +3,13 @@ use mathlib.Core.List.{List}
 use mathlib.Core.Path.{_≡_}
 use Prim.Native.Nat.{ℕ, suc, _+_, _-_, _*_, _≤_, _<_}
 use Rattle.stacks.specs.Run.{Usable}
-use Rattle.stacks.specs.Count.{sum}
+use Rattle.stacks.specs.Count.{sum, greatest}
 use Rattle.moves.specs.Went.{Went}
 use Rattle.moves.specs.Written.{Steps}
 use Rattle.placing.specs.declared.Frame.{Frame}
 use Rattle.placing.specs.declared.Spot.{Spot}
-use Rattle.placing.specs.Frames.{storeOf, depthIn, heightIn}
+use Rattle.lifts.specs.Lifting.{heightIn}
+use Rattle.placing.specs.Frames.{storeOf, depthIn}
 use Rattle.choices.specs.Choices.{Finished}
 use Rattle.turns.specs.declared.Owed.{Owed}
 use Rattle.turns.specs.declared.Turned.{Turned}
@@ -16,7 +17,7 @@ use Rattle.turns.specs.Turning.{OnTheWay}
 
 -- the depth of the deepest shaft
 abbrev pub deepest : Frame → ℕ
-deepest f = f .h
+deepest f = greatest (f .m) (depthIn f)
 
 -- a cassette on the wanted one takes two lifts at most, one in its way one; then come a turn, which puts one more in the way, and the cassette itself by way of one slot
 abbrev pub mostLifts : List ℕ → Spot → Spot → ℕ

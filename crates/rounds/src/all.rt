@@ -2,8 +2,10 @@
 use crate::serve::play;
 use choices::agree::finished;
 use choices::choose::choose;
+use lifts::Heights;
+use lifts::Slots;
+use moves::Hints;
 use placing::Frame;
-ghost use mathlib.Core.Path.{_≡_};
 ghost use Prim.Native.Nat.{_+_, _*_, _≤_};
 ghost use lib.ListN.{length};
 ghost use Rattle.turns.specs.Turning.{OnTheWay};
@@ -12,12 +14,12 @@ ghost use Rattle.rounds.specs.Serving.{deepest, rowsLeft, ArrivedIs};
 // Plays rounds until every row of the goal is passed, and gives the end of the list. `done` says how many rows of each shaft are passed already.
 pub fn play_all(
     f: Frame,
-    tops: [u8; 16],
-    goal: &[u8; 256],
-    done: &mut [u8; 16],
-    heights: &mut [u8; 16],
-    slots: &mut [u8; 256],
-    hints: &mut [u8; 256],
+    tops: Heights,
+    goal: &Slots,
+    done: &mut Heights,
+    heights: &mut Heights,
+    slots: &mut Slots,
+    hints: &mut Hints,
     out: &mut [u8],
 ) -> usize
     requires { ⌜ OnTheWay f tops (now goal) (now done) (now heights) (now slots) ⌝ }

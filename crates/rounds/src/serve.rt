@@ -2,16 +2,18 @@
 use choices::Round;
 use choices::choose::next;
 use choices::find::seek;
+use lifts::Heights;
+use lifts::Row;
+use lifts::Shaft;
+use lifts::Slots;
+use moves::Hints;
 use placing::Frame;
 use placing::Spot;
 use placing::leave::leave;
 use placing::place::place;
-use store::Row;
-use store::Shaft;
 use turns::Owed;
 use turns::Turned;
 use turns::make_room;
-ghost use mathlib.Core.Path.{_≡_};
 ghost use Prim.Native.Nat.{_+_, _*_, _≤_};
 ghost use lib.ListN.{length};
 ghost use Rattle.choices.specs.Choices.{RoundFor};
@@ -21,12 +23,12 @@ ghost use Rattle.rounds.specs.Serving.{deepest, mostLifts, ServedIs, Can
 // Brings a cassette that stands in another shaft to its row.
 fn bring(
     f: Frame,
-    tops: [u8; 16],
-    goal: &[u8; 256],
-    done: &mut [u8; 16],
-    heights: &mut [u8; 16],
-    slots: &mut [u8; 256],
-    hints: &mut [u8; 256],
+    tops: Heights,
+    goal: &Slots,
+    done: &mut Heights,
+    heights: &mut Heights,
+    slots: &mut Slots,
+    hints: &mut Hints,
     at: Spot,
     to: Spot,
     count: usize,
@@ -59,12 +61,12 @@ fn bring(
 // Brings the cassette of a round to its row, out of its own shaft first if it stands in it.
 fn serve(
     f: Frame,
-    tops: [u8; 16],
-    goal: &[u8; 256],
-    done: &mut [u8; 16],
-    heights: &mut [u8; 16],
-    slots: &mut [u8; 256],
-    hints: &mut [u8; 256],
+    tops: Heights,
+    goal: &Slots,
+    done: &mut Heights,
+    heights: &mut Heights,
+    slots: &mut Slots,
+    hints: &mut Hints,
     r: Round,
     count: usize,
     out: &mut [u8],
@@ -124,12 +126,12 @@ fn serve(
 // Fills the top row of a shaft again.
 fn restore(
     f: Frame,
-    tops: [u8; 16],
-    goal: &[u8; 256],
-    done: &mut [u8; 16],
-    heights: &mut [u8; 16],
-    slots: &mut [u8; 256],
-    hints: &mut [u8; 256],
+    tops: Heights,
+    goal: &Slots,
+    done: &mut Heights,
+    heights: &mut Heights,
+    slots: &mut Slots,
+    hints: &mut Hints,
     shaft: Shaft,
     count: usize,
     out: &mut [u8],
@@ -157,12 +159,12 @@ fn restore(
 // Plays a round: one row more of its shaft is in place, and every row that was passed still is.
 pub fn play(
     f: Frame,
-    tops: [u8; 16],
-    goal: &[u8; 256],
-    done: &mut [u8; 16],
-    heights: &mut [u8; 16],
-    slots: &mut [u8; 256],
-    hints: &mut [u8; 256],
+    tops: Heights,
+    goal: &Slots,
+    done: &mut Heights,
+    heights: &mut Heights,
+    slots: &mut Slots,
+    hints: &mut Hints,
     r: Round,
     count: usize,
     out: &mut [u8],

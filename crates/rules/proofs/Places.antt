@@ -1,14 +1,15 @@
 -- What stands at each place of the reading, how long it is, and that rows read upward agree exactly if they agree slot by slot.
-use mathlib.Core.List.{List, _∷_, _++_, append-assoc, reverse, reverse-reverse}
+use mathlib.Core.List.{List, [], _∷_, _++_, append-assoc, reverse, reverse-reverse}
 use mathlib.Core.Path.{_≡_, sym, ap, _∙_}
 use Prim.Native.Nat.{ℕ, zero, suc, _+_, _-_, _*_, _≤_, _<_}
 use native.Mathlib.Decide.{decLt}
 use native.Mathlib.Omega.{arith}
 use lib.ListN.{length, getD, length-reverseAux}
 use lib.Seq.{ext-getD}
+use Rattle.lifts.specs.Lifting.{shown}
 use Rattle.stacks.specs.TwoStackReading.{twoStackReading}
 use Rattle.store.specs.declared.Store.{Store}
-use Rattle.store.specs.Slots.{height, slot, upward, downward, stack}
+use Rattle.store.specs.Slots.{held, height, slot, upward, downward, stack, rowsDown, rowsUp}
 use Rattle.store.proofs.Rows.{stack-length, same-rows, rows-same}
 use Rattle.reach.specs.Rules.{twoShaftReading}
 use Rattle.reach.proofs.Agree.{upward-reversed, reading-agrees}
@@ -16,7 +17,7 @@ use Rattle.reach.proofs.Agree.{upward-reversed, reading-agrees}
 module _ (s : Store) where
   -- what follows rows 1 to k
   after-rows : (x k j : ℕ) (r : List ℕ) → getD (upward s x k ++ r) (k + j) 0 ≡ getD r j 0
-  unfolding upward
+  unfolding rowsUp
   after-rows x zero j r = ap (λ n. getD r n 0) (omega arith)
   after-rows x (suc k) j r =
       let e : suc k + j ≡ k + suc j = omega arith in
@@ -24,7 +25,7 @@ module _ (s : Store) where
 
   -- the rows themselves
   among-rows : (x k i : ℕ) (r : List ℕ) → i < k → getD (upward s x k ++ r) i 0 ≡ getD (s .slots) (16 * x + i) 0
-  unfolding upward slot
+  unfolding rowsUp shown
   among-rows x zero i r h = absurd (omega arith)
   among-rows x (suc k) i r h =
       rw append-assoc
@@ -38,7 +39,7 @@ module _ (s : Store) where
 
   -- rows 1 to k read downward
   downward-at : (x k i : ℕ) → i < k → getD (downward s x k) i 0 ≡ getD (s .slots) (16 * x + (k - 1 - i)) 0
-  unfolding downward slot
+  unfolding rowsDown shown
   downward-at x zero i h = absurd (omega arith)
   downward-at x (suc k) zero h = ap (λ n. getD (s .slots) (16 * x + n) 0) (omega arith)
   downward-at x (suc k) (suc i) h = downward-at x k i (omega arith) ∙ ap (λ n. getD (s .slots) (16 * x + n) 0) (omega arith)
@@ -69,13 +70,17 @@ module _ (s t : Store) where
   same-readings n e f g =
       ext-getD 0 (twoShaftReading s) (twoShaftReading t) (reading-length s ∙ sym e ∙ f ∙ sym (reading-length t)) λ p h. g p (omega (arith, reading-length s))
 
-  -- rows 1 to k of shaft x agree exactly if they agree slot by slot
-  pub rows-so : (x k : ℕ) → ((i : ℕ) → i < k → getD (s .slots) (16 * x + i) 0 ≡ getD (t .slots) (16 * x + i) 0) → upward s x k ≡ upward t x k
-  unfolding slot
-  rows-so x k g = upward-reversed s x k ∙ ap reverse (same-rows s t x k g) ∙ sym (upward-reversed t x k)
+-- rows 1 to k of shaft x agree exactly if they agree slot by slot
+module _ (a b : List ℕ) where
+  pub rows-so : (x k : ℕ) → ((i : ℕ) → i < k → shown a x (suc i) ≡ shown b x (suc i)) → rowsUp a x k ≡ rowsUp b x k
+  rows-so x k g =
+      let s : Store = held 0 0 [] a in
+      let t : Store = held 0 0 [] b in
+      upward-reversed s x k ∙ ap reverse (same-rows s t x k g) ∙ sym (upward-reversed t x k)
 
-  pub rows-each : (x k i : ℕ) → upward s x k ≡ upward t x k → i < k → getD (s .slots) (16 * x + i) 0 ≡ getD (t .slots) (16 * x + i) 0
-  unfolding slot
+  pub rows-each : (x k i : ℕ) → rowsUp a x k ≡ rowsUp b x k → i < k → shown a x (suc i) ≡ shown b x (suc i)
   rows-each x k i e h =
+      let s : Store = held 0 0 [] a in
+      let t : Store = held 0 0 [] b in
       rows-same s t x k i
       (sym (reverse-reverse (downward s x k)) ∙ ap reverse (sym (upward-reversed s x k) ∙ e ∙ upward-reversed t x k) ∙ reverse-reverse (downward t x k)) h

@@ -2,15 +2,14 @@
 use mathlib.Core.List.{reverse, reverseAux, reverse-reverse}
 use mathlib.Core.Logic.{_↔_}
 use mathlib.Core.Path.{_≡_, refl, sym, ap, _∙_}
-use Prim.Native.Nat.{ℕ, zero, suc, _+_, _-_, _*_, _≤_, _<_}
-use native.Mathlib.Nat.{suc-mul}
+use Prim.Native.Nat.{ℕ, zero, suc, _+_, _-_, _≤_, _<_}
 use native.Mathlib.Omega.{arith}
 use lib.ListN.{length, length-append, length-reverse}
-use Rattle.stacks.specs.Count.{total}
+use Rattle.stacks.specs.Count.{sum, total}
 use Rattle.stacks.specs.TwoStackReading.{twoStackReading}
 use Rattle.stacks.proofs.Counts.{same-length}
 use Rattle.store.specs.declared.Store.{Store}
-use Rattle.store.specs.Slots.{height, upward, downward, stack, cassettesBelow, cassettes, cassetteCount, emptyCount}
+use Rattle.store.specs.Slots.{depth, height, upward, downward, stack, cassettesBelow, cassettes, cassetteCount, emptyCount}
 use Rattle.store.specs.Sound.{Shaped, Sound}
 use Rattle.store.proofs.Acceptance.{accepted-sound}
 use Rattle.store.proofs.Rows.{stack-length}
@@ -38,12 +37,12 @@ module _ (s : Store) (p : Shaped s) where
   shaft-length x = ap length (upward-reversed s x (height s x)) ∙ length-reverse (downward s x (height s x)) ∙ stack-length s x
 
   -- no store holds more than its slots
-  below-most : (x : ℕ) → length (cassettesBelow s x) ≤ x * s .h
-  unfolding cassettesBelow
+  below-most : (x : ℕ) → length (cassettesBelow s x) ≤ sum x (depth s)
+  unfolding cassettesBelow sum
   below-most zero = omega arith
-  below-most (suc x) = simp length-append (omega (arith, below-most x, shaft-length x, p .heights x, suc-mul x (s .h)))
+  below-most (suc x) = simp length-append (omega (arith, below-most x, shaft-length x, p .heights x))
 
-  pub count-most : cassetteCount s ≤ s .m * s .h
+  pub count-most : cassetteCount s ≤ sum (s .m) (depth s)
   unfolding cassetteCount cassettes
   count-most = below-most (s .m)
 
@@ -67,15 +66,15 @@ module _ (s t : Store) (p : Comparable s t) where
   pub both-hold : (n : ℕ) → n ≡ cassetteCount s → s .m ≤ 2 → (n ≡ height s 0 + height s 1) × (n ≡ height t 0 + height t 1)
   both-hold n e h = (
     e ∙ two-hold s (start .shaped) (start .some-shaft) h,
-    e ∙ same-count ∙ two-hold t (goal .shaped) (goal .some-shaft) (rw (p .shafts) at h),
+    e ∙ same-count ∙ two-hold t (goal .shaped) (goal .some-shaft) (rw (p .frame .shafts) at h),
   )
 
   -- stores of one shaft that read the same are the same
   one-same : s .m ≡ 1 → twoShaftReading s ≡ twoShaftReading t → s ≡ t
-  one-same e r = same-stacks s t (start .shaped) (goal .shaped) (p .shafts) (p .depth) go
+  one-same e r = same-stacks s t (start .shaped) (goal .shaped) (p .frame) go
     where
       f : t .m ≡ 1
-      f = sym (p .shafts) ∙ e
+      f = sym (p .frame .shafts) ∙ e
 
       g : reverse (stack s 0) ≡ reverse (stack t 0)
       g = sym (one-read s (start .shaped) e) ∙ r ∙ one-read t (goal .shaped) f
@@ -94,17 +93,14 @@ module _ (s t : Store) (p : Comparable s t) where
       go (suc (suc zero)) e h = (λ r. r, λ r. r)
       go (suc (suc (suc m))) e h = absurd (omega arith)
 
-  -- "m ≥ 3: .. these rows agree.", the rows counted as the code counts them
-  pub more-rule : (n m h k : ℕ) → n ≡ cassetteCount s → m ≡ s .m → h ≡ s .h → k ≡ h - (m * h - n) → 2 < m
-      → ((x : ℕ) → x < m → upward s x k ≡ upward t x k) ↔ Rule s t
-  unfolding floor emptyCount
-  more-rule n m h k a b c d i = go (s .m) refl (rw b at i)
+  -- "m ≥ 3: .. these rows agree."
+  pub more-rule : (e : ℕ) → e ≡ emptyCount s → 2 < s .m
+      → ((x : ℕ) → x < s .m → upward s x (depth s x - e) ≡ upward t x (depth s x - e)) ↔ Rule s t
+  unfolding floor
+  more-rule e a i = go (s .m) refl i
     where
-      rows : (x : ℕ) → floor s x ≡ k
-      rows x = sym (d ∙ rw (a, b, c))
-
-      go : (j : ℕ) → s .m ≡ j → 2 < j → ((x : ℕ) → x < m → upward s x k ≡ upward t x k) ↔ RuleFor j s t
+      go : (j : ℕ) → s .m ≡ j → 2 < j → ((x : ℕ) → x < s .m → upward s x (depth s x - e) ≡ upward t x (depth s x - e)) ↔ RuleFor j s t
       go zero e g = absurd (omega arith)
       go (suc zero) e g = absurd (omega arith)
       go (suc (suc zero)) e g = absurd (omega arith)
-      go (suc (suc (suc j))) e g = (λ r x l. rw (rows x) (r x (omega arith)), λ r x l. rw (rows x) at (r x (omega arith)))
+      go (suc (suc (suc j))) f g = (λ r x l. rw (← a) (r x l), λ r x l. rw (← a) at (r x l))

@@ -1,20 +1,7 @@
--- The number of document 01 for each case of the answers on two stores; 0 where nothing is refused. The fault of a store has the same number in the
--- start and in the goal, so the promises name the values, and the numbers follow from them.
+-- The number of document 01 for each case of the yes or no; 0 for yes.
 use Prim.Native.Nat.{ℕ}
-use Rattle.store.specs.Numbers.{faultNumber}
-use Rattle.rules.specs.declared.pairs.PairFault.{PairFault}
-use Rattle.rules.specs.declared.pairs.Pair.{Pair}
+use Rattle.pairs.specs.Numbers.{pairFaultNumber}
 use Rattle.rules.specs.declared.Reach.{Reach}
-
-abbrev pub pairFaultNumber : PairFault → ℕ
-pairFaultNumber (PairFault.StartRefused f) = faultNumber f
-pairFaultNumber (PairFault.GoalRefused f) = faultNumber f
-pairFaultNumber PairFault.Frames = 8
-pairFaultNumber PairFault.Cassettes = 9
-
-abbrev pub pairNumber : Pair → ℕ
-pairNumber Pair.Comparable = 0
-pairNumber (Pair.Refused f) = pairFaultNumber f
 
 abbrev pub reachNumber : Reach → ℕ
 reachNumber Reach.Yes = 0

@@ -1,6 +1,5 @@
-// Two stores compared, and the yes or no (document 01, "Which goals can be reached", "Which comes first").
+// The yes or no (document 01, "Which goals can be reached", "Which comes first").
 pub mod number;
-pub mod pairs;
 pub mod rule;
 
 use pairs::Pair;

@@ -1,22 +1,27 @@
 // The rules of document 01, "Which goals can be reached", as tests of two stores that can be compared.
+use lifts::Slots;
+use lifts::slot_at;
+use marks::Cassette;
 use store::Store;
-use store::wide;
+use store::depth_of;
+use store::empty_slots;
 ghost use mathlib.Core.Path.{_≡_};
-ghost use Prim.Native.Nat.{ℕ, _+_, _-_, _*_, _≤_, _<_};
+ghost use Prim.Native.Nat.{ℕ, _+_, _-_, _≤_, _<_};
 ghost use lib.ListN.{getD};
-ghost use Rattle.store.specs.Slots.{height, upward, cassetteCount};
+ghost use Rattle.stacks.specs.Deciding.{Decides};
+ghost use Rattle.lifts.specs.Lifting.{mostShafts, mostRows};
+ghost use Rattle.store.specs.Slots.{height, rowsUp, depthBy, DepthsFit, cassetteCount};
 ghost use Rattle.store.specs.Sound.{Shaped};
-ghost use Rattle.reach.specs.Deciding.{Decides};
 ghost use Rattle.reach.specs.Pairs.{Comparable};
 ghost use Rattle.reach.specs.Rules.{twoShaftReading, Rule};
 
 // The cassette at a place of the two-shaft reading of n cassettes: shaft 0 upward, then shaft 1 downward.
-fn read_at(s: Store, n: usize, p: usize) -> u8
+fn read_at(s: Store, n: usize, p: usize) -> Cassette
     requires { ⌜ Shaped s ⌝ }
     requires { ⌜ (n ≡ height s 0 + height s 1) × (p < n) ⌝ }
     ensures { λ r. ⌜ r ≡ getD (twoShaftReading s) p 0 ⌝ }
 {
-    let low = wide(s.heights[0]);
+    let low = s.heights[0] as usize;
     if p < low {
         return s.slots[p];
     }
@@ -41,13 +46,13 @@ fn same_reading(s: Store, t: Store, n: usize) -> bool
 }
 
 // Whether rows 1 to k of a shaft agree.
-fn same_rows(s: Store, t: Store, x: usize, k: usize) -> bool
-    requires { ⌜ (x < 16) × (k ≤ 16) ⌝ }
-    ensures { λ r. ⌜ Decides r (upward s x k ≡ upward t x k) ⌝ }
+fn same_rows(a: &Slots, b: &Slots, x: usize, k: usize) -> bool
+    requires { ⌜ (x < mostShafts) × (k ≤ mostRows) ⌝ }
+    ensures { λ r. ⌜ Decides r (rowsUp (now (a .entry)) x k ≡ rowsUp (now (b .entry)) x k) ⌝ }
 {
     let mut i: usize = 0;
     while i < k {
-        if s.slots[16 * x + i] != t.slots[16 * x + i] {
+        if slot_at(a, 16 * x + i) != slot_at(b, 16 * x + i) {
             return false;
         }
         i += 1;
@@ -55,38 +60,28 @@ fn same_rows(s: Store, t: Store, x: usize, k: usize) -> bool
     true
 }
 
-// Whether rows 1 to k of the first m shafts agree.
-fn same_floors(s: Store, t: Store, m: usize, k: usize) -> bool
-    requires { ⌜ (m ≤ 16) × (k ≤ 16) ⌝ }
-    ensures { λ r. ⌜ Decides r ((x : ℕ) → x < m → upward s x k ≡ upward t x k) ⌝ }
+// How many rows of a shaft of depth d never change: d − e, or none.
+fn floor_rows(d: u8, e: usize) -> usize
+    ensures { λ r. ⌜ r ≡ d - e ⌝ }
 {
+    let rows = d as usize;
+    if e < rows { rows - e } else { 0 }
+}
+
+// Whether the rows of the first m shafts that never change agree.
+fn same_floors(m: u8, h: u8, e: usize, a: &Slots, b: &Slots) -> bool
+    requires { ⌜ (m ≤ mostShafts) × DepthsFit h ⌝ }
+    ensures { λ r. ⌜ Decides r ((x : ℕ) → x < m → rowsUp (now (a .entry)) x (depthBy h x - e) ≡ rowsUp (now (b .entry)) x (depthBy h x - e)) ⌝ }
+{
+    let shafts = m as usize;
     let mut x: usize = 0;
-    while x < m {
-        if !same_rows(s, t, x, k) {
+    while x < shafts {
+        if !same_rows(a, b, x, floor_rows(depth_of(h, x), e)) {
             return false;
         }
         x += 1;
     }
     true
-}
-
-// How many slots are empty.
-pub fn empty_slots(m: usize, h: usize, n: usize) -> usize
-    requires { ⌜ (m ≤ 16) × (h ≤ 16) ⌝ }
-    requires { ⌜ n ≤ m * h ⌝ }
-    ensures { λ r. ⌜ r ≡ m * h - n ⌝ }
-{
-    m * h - n
-}
-
-// How many rows of each shaft never change: h − e, or none.
-fn floor_rows(m: usize, h: usize, n: usize) -> usize
-    requires { ⌜ (m ≤ 16) × (h ≤ 16) ⌝ }
-    requires { ⌜ n ≤ m * h ⌝ }
-    ensures { λ r. ⌜ r ≡ h - (m * h - n) ⌝ }
-{
-    let e = empty_slots(m, h, n);
-    if e < h { h - e } else { 0 }
 }
 
 // Whether the goal obeys the rule for its number of shafts.
@@ -95,10 +90,11 @@ pub fn rule_holds(start: Store, goal: Store, n: usize) -> bool
     requires { ⌜ n ≡ cassetteCount start ⌝ }
     ensures { λ r. ⌜ Decides r (Rule start goal) ⌝ }
 {
-    let m = wide(start.m);
-    if m <= 2 {
+    if start.m <= 2 {
         return same_reading(start, goal, n);
     }
-    let k = floor_rows(m, wide(start.h), n);
-    same_floors(start, goal, m, k)
+    let e = empty_slots(start.m, start.h, n);
+    let a = start.slots;
+    let b = goal.slots;
+    same_floors(start.m, start.h, e, &a, &b)
 }

@@ -1,11 +1,11 @@
 -- Sums over the shafts: what changes where two functions differ at one place or at two, and how a smaller place is found from the sums.
 use mathlib.Core.Path.{_≡_, refl, sym, ap, _∙_, subst⁻¹}
 use mathlib.Core.Logic.{_≢_}
-use Prim.Native.Nat.{ℕ, zero, suc, _+_, _≤_, _<_}
+use Prim.Native.Nat.{ℕ, zero, suc, _+_, _*_, _≤_, _<_}
 use native.Mathlib.Nat.{le-antisymm}
 use native.Mathlib.Decide.{ℕ-discrete, decLt}
 use native.Mathlib.Omega.{arith}
-use Rattle.stacks.specs.Count.{sum}
+use Rattle.stacks.specs.Count.{sum, greatest}
 
 -- What holds at a and at every other number holds at every number.
 pub everywhere : (P : ℕ → Type 0) (a : ℕ) → P a → ((i : ℕ) → i ≢ a → P i) → (i : ℕ) → P i
@@ -122,3 +122,30 @@ sum-zero (suc n) = omega (arith, sum-zero n)
 -- A sum that is not 0 has a term that is not 0.
 pub some-positive : (n : ℕ) (f : ℕ → ℕ) → 0 < sum n f → Less n n (λ i. 0) f
 some-positive n f h = some-less n (λ i. 0) f (omega (arith, sum-zero n))
+
+-- a sum, and the greatest, of equal terms
+pub sum-same : (m k : ℕ) → sum m (λ i. k) ≡ m * k
+unfolding sum
+sum-same zero k = omega arith
+sum-same (suc m) k = omega (arith, sum-same m k)
+
+pub greatest-same : (m k : ℕ) → 0 < m → greatest m (λ i. k) ≡ k
+unfolding greatest
+greatest-same zero k h = absurd (omega arith)
+greatest-same (suc zero) k h = omega arith
+greatest-same (suc (suc m)) k h = omega (arith, greatest-same (suc m) k (omega arith))
+
+-- no term is above the greatest, and the greatest is not above a bound of all terms
+pub term-le-greatest : (m : ℕ) (f : ℕ → ℕ) (i : ℕ) → i < m → f i ≤ greatest m f
+unfolding greatest
+term-le-greatest zero f i h = absurd (omega arith)
+term-le-greatest (suc m) f i h =
+    elim (ℕ-discrete i m) [
+      | yes e ↦ omega (arith, ap f e)
+      | no n ↦ omega (arith, term-le-greatest m f i (omega arith))
+    ]
+
+pub greatest-le : (m : ℕ) (f : ℕ → ℕ) (k : ℕ) → ((i : ℕ) → f i ≤ k) → greatest m f ≤ k
+unfolding greatest
+greatest-le zero f k h = omega arith
+greatest-le (suc m) f k h = omega (arith, greatest-le m f k h, h m)

@@ -1,6 +1,6 @@
--- Sums over the shafts, and how often a number stands in a list or in the stacks.
+-- Sums over the shafts, the greatest of them, and how often a number stands in a list or in the stacks.
 use mathlib.Core.List.{List, [], _∷_}
-use Prim.Native.Nat.{ℕ, zero, suc, _+_, _-_}
+use Prim.Native.Nat.{ℕ, zero, suc, _+_, _-_, max}
 use lib.ListN.{length, drop}
 use lib.Dec.{eqb}
 use mathlib.Core.Bool.{Bool, true, false}
@@ -10,6 +10,11 @@ use Rattle.stacks.specs.Run.{Stacks}
 unfoldable pub sum : ℕ → (ℕ → ℕ) → ℕ
 sum zero f = 0
 sum (suc m) f = sum m f + f m
+
+-- the greatest of f 0 .. f (m - 1)
+unfoldable pub greatest : ℕ → (ℕ → ℕ) → ℕ
+greatest zero f = 0
+greatest (suc m) f = max (greatest m f) (f m)
 
 abbrev pub one : Bool → ℕ
 one true = 1

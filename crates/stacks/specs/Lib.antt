@@ -1,4 +1,5 @@
 pub mod Count
+pub mod Deciding
 pub mod Moves
 pub mod Placing
 pub mod Run

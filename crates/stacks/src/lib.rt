@@ -1,1 +1,2 @@
-// Stores as stacks: definitions in specs/, theorems in proofs/. The crate has no code.
+// Stores as stacks, sums and counts over shafts, and what a test decides: definitions in specs/, theorems in proofs/. The crate has no
+// code.

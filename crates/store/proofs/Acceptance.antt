@@ -1,20 +1,21 @@
 -- A store is accepted exactly if it is sound.
 use borrow.Author.Tests.{ltb-false, le-ltb}
 use mathlib.Core.Bool.{true, not}
-use mathlib.Core.Path.{_≡_}
+use mathlib.Core.Path.{_≡_, refl}
 use Prim.Native.Nat.{ℕ, _≤_, _<_}
 use native.Mathlib.Decide.{decLt}
 use native.Mathlib.Omega.{arith}
+use Rattle.marks.specs.Cassettes.{given}
+use Rattle.marks.specs.Marking.{noMarks, withMarks, markCount, Marked}
+use Rattle.marks.proofs.Faulted.{first-none, given-none, not-given}
+use Rattle.marks.proofs.Takes.{taken-cassette, marks-counted}
 use Rattle.store.specs.declared.Store.{Store}
-use Rattle.store.specs.Slots.{depth, height, cassettes, cassetteCount}
-use Rattle.store.specs.Accept.{given, inPlace, rowsFault, shaftsFault, storeFault, Accepted}
-use Rattle.store.specs.Marking.{noMarks, withMarks, markCount}
+use Rattle.store.specs.Slots.{depth, height, cassettesBelow, cassettes, cassetteCount}
+use Rattle.store.specs.Accept.{inPlace, rowsFault, shaftsFault, storeFault, Accepted}
 use Rattle.store.specs.Sound.{Shaped, Sound}
-use Rattle.store.proofs.Faulted.{first-none, given-none, not-given}
 use Rattle.store.proofs.InPlace.{shafts-in-range, rows-in-range, in-place-shaped, shaped-in-place}
-use Rattle.store.proofs.MarkLaws.{Bytes}
-use Rattle.store.proofs.Once.{walked-once, once-walks, cassettes-bytes, marks-counted}
-use Rattle.store.proofs.Walk.{shaft-none, not-too-high, row-none, taken-cassette}
+use Rattle.store.proofs.Once.{walked-once, once-walks, cassettes-below}
+use Rattle.store.proofs.Walk.{shaft-none, not-too-high, row-none}
 
 module _ (s : Store) where
   module _ (e : Accepted s) where
@@ -27,7 +28,7 @@ module _ (s : Store) where
         (not-given (inPlace s) 11 (p .0), q .0, ltb-false 255 (cassetteCount s) (given-none _ 5 (q .1)))
 
     -- no shaft below m is too high, and none of its rows has a fault
-    shaft-taken : (x : ℕ) → x < s .m → (height s x ≤ depth s x) × (rowsFault s x (height s x) ≡ 0)
+    shaft-taken : (x : ℕ) → x < s .m → (height s x ≤ depth s x) × (rowsFault (cassettesBelow s x) (s .slots) x (height s x) ≡ 0)
     shaft-taken x h = not-too-high s x (shaft-none s x (s .m) (none-met .1) h)
 
     pub accepted-shaped : Shaped s
@@ -46,19 +47,20 @@ module _ (s : Store) where
     accepted-sound = record {
       shaped = accepted-shaped;
       some-shaft = shafts-in-range s (none-met .0) .0;
-      some-row = rows-in-range s (none-met .0) .0;
-      no-gap = λ x k h. taken-cassette _ _ (row-none s x k (height s x) (shaft-taken x (below x (omega arith)) .1) h) .0;
+      some-row = λ x i. rows-in-range s (none-met .0) x .0;
+      no-gap = λ x k h. taken-cassette _ _ (row-none (cassettesBelow s x) (s .slots) x k (height s x) (shaft-taken x (below x (omega arith)) .1) h) .0;
       once = walked-once s (s .m) (none-met .1);
       few = none-met .2;
     }
 
-    -- its cassettes are bytes, and its marks are as many as its cassettes
-    pub accepted-bytes : Bytes (cassettes s)
+    -- the marks of its cassettes are as many as its cassettes
+    pub accepted-marked : Marked (withMarks noMarks (cassettes s)) (cassettes s)
     unfolding cassettes
-    accepted-bytes = cassettes-bytes s (accepted-shaped .bytes) (s .m)
+    accepted-marked = record { marks = refl; below = cassettes-below s (accepted-shaped .numbered) (s .m); once = accepted-sound .once }
 
     pub accepted-count : markCount (withMarks noMarks (cassettes s)) ≡ cassetteCount s
-    accepted-count = marks-counted s (accepted-shaped .bytes) (none-met .1)
+    unfolding cassetteCount
+    accepted-count = marks-counted _ (cassettes s) accepted-marked
 
   pub sound-accepted : Sound s → Accepted s
   unfolding storeFault cassettes

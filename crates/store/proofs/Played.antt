@@ -4,10 +4,11 @@ use mathlib.Core.Path.{_≡_, refl, sym, ap, _∙_, subst}
 use Prim.Native.Nat.{ℕ, _<_}
 use native.Mathlib.Omega.{arith}
 use Rattle.stacks.specs.Run.{Stacks, Lift, Step, Run, done, step}
+use Rattle.lifts.specs.Bytes.{left, entered}
 use Rattle.store.specs.declared.Store.{Store}
-use Rattle.store.specs.Slots.{depth, stack}
+use Rattle.store.specs.Slots.{depth, SameFrame, stack}
 use Rattle.store.specs.Lifts.{Allowed, lifted}
-use Rattle.store.specs.Lists.{left, entered, byteOf, liftOf, Leads, ended, then}
+use Rattle.store.specs.Lists.{byteOf, liftOf, Leads, ended, then}
 use Rattle.store.specs.Sound.{Shaped}
 use Rattle.store.proofs.Views.{lifted-shaped, lift-step, step-allowed, step-lifted, same-stacks}
 
@@ -22,10 +23,10 @@ pub leads-shaped : {s t : Store} {bs : List ℕ} → Shaped s → Leads s bs t �
 leads-shaped p ended = p
 leads-shaped p (then {s} {t} {b} {bs} q r) = leads-shaped (lifted-shaped s (left b) (entered b) p q) r
 
-pub leads-frame : {s t : Store} {bs : List ℕ} → Leads s bs t → (t .m ≡ s .m) × (t .h ≡ s .h)
+pub leads-frame : {s t : Store} {bs : List ℕ} → Leads s bs t → SameFrame s t
 unfolding lifted
-leads-frame ended = (refl, refl)
-leads-frame (then q r) = leads-frame r
+leads-frame ended = record { shafts = refl; depths = refl }
+leads-frame (then q r) = let f = leads-frame r in record { shafts = f .shafts; depths = f .depths }
 
 -- one list after another
 pub leads-then : {s t u : Store} {bs cs : List ℕ} → Leads s bs t → Leads t cs u → Leads s (bs ++ cs) u
@@ -44,17 +45,17 @@ lift-then s t l bs h q r =
 
 -- the same for a run from the stacks S of s to the stacks T of t
 stacks-lead : {m : ℕ} {d : ℕ → ℕ} {S T : Stacks} {ls : List Lift} → Run m d S ls T → (s t : Store) → Shaped s → Shaped t
-    → s .m ≡ t .m → s .h ≡ t .h → s .m ≡ m → depth s ≡ d → stack s ≡ S → stack t ≡ T → Leads s (map byteOf ls) t
+    → SameFrame s t → s .m ≡ m → depth s ≡ d → stack s ≡ S → stack t ≡ T → Leads s (map byteOf ls) t
 unfolding lifted
-stacks-lead done s t p q e f i j u v =
-    subst (Leads s []) (same-stacks s t p q e f λ x. ap (λ (S : Stacks). S x) (u ∙ sym v)) ended
-stacks-lead (step {T} {l} {ls} k r) s t p q e f i j u v =
+stacks-lead done s t p q f i j u v =
+    subst (Leads s []) (same-stacks s t p q f λ x. ap (λ (S : Stacks). S x) (u ∙ sym v)) ended
+stacks-lead (step {T} {l} {ls} k r) s t p q f i j u v =
     let k′ : Step (s .m) (depth s) l (stack s) T = rw (← i, ← j, ← u) at k in
     let a : Allowed s (l .left) (l .entered) = step-allowed s l T p k′ in
     let p′ = lifted-shaped s (l .left) (l .entered) p a in
-    let r′ = stacks-lead r (lifted s (l .left) (l .entered)) t p′ q e f i j (step-lifted s l T p k′) v in
+    let r′ = stacks-lead r (lifted s (l .left) (l .entered)) t p′ q (record { shafts = f .shafts; depths = f .depths }) i j (step-lifted s l T p k′) v in
     lift-then s t l (map byteOf ls) (omega arith) a r′
 
 -- a run of the stacks is a list of bytes that leads to the store with these stacks
-pub run-leads : {s t : Store} {ls : List Lift} → Shaped s → Shaped t → s .m ≡ t .m → s .h ≡ t .h → Run (s .m) (depth s) (stack s) ls (stack t) → Leads s (map byteOf ls) t
-run-leads {s} {t} p q e f r = stacks-lead r s t p q e f refl refl refl refl
+pub run-leads : {s t : Store} {ls : List Lift} → Shaped s → Shaped t → SameFrame s t → Run (s .m) (depth s) (stack s) ls (stack t) → Leads s (map byteOf ls) t
+run-leads {s} {t} p q f r = stacks-lead r s t p q f refl refl refl refl

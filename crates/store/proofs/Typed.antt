@@ -1,4 +1,4 @@
--- Lists of numbers 0 to 255, as the slots of a store value are: by each place, and after one place is set.
+-- Lists of numbers that a slot may show: by each place, and after one place is set.
 use borrow.Author.Tests.{ltb-true, lt-ltb}
 use mathlib.Core.Bool.{true}
 use mathlib.Core.List.{List, [], _∷_}
@@ -7,23 +7,24 @@ use Prim.Native.Nat.{ℕ, zero, suc, _<_}
 use native.Mathlib.Omega.{arith}
 use lib.Dec.{ltb}
 use lib.ListN.{getD, set}
-use Rattle.store.specs.Accept.{allBytes}
-use Rattle.store.proofs.Faulted.{both-true}
+use Rattle.marks.specs.Cassettes.{numbers}
+use Rattle.marks.proofs.Faulted.{both-true}
+use Rattle.store.specs.Accept.{allShown}
 
-pub bytes-at : (l : List ℕ) → allBytes l ≡ true → (i : ℕ) → getD l i 0 < 256
-unfolding allBytes
-bytes-at [] e i = omega arith
-bytes-at (c ∷ l) e zero = ltb-true c 256 (both-true (ltb c 256) (allBytes l) e .0)
-bytes-at (c ∷ l) e (suc i) = bytes-at l (both-true (ltb c 256) (allBytes l) e .1) i
+pub shown-at : (l : List ℕ) → allShown l ≡ true → (i : ℕ) → getD l i 0 < numbers
+unfolding allShown
+shown-at [] e i = omega arith
+shown-at (c ∷ l) e zero = ltb-true c numbers (both-true (ltb c numbers) (allShown l) e .0)
+shown-at (c ∷ l) e (suc i) = shown-at l (both-true (ltb c numbers) (allShown l) e .1) i
 
-pub all-bytes : (l : List ℕ) → ((i : ℕ) → getD l i 0 < 256) → allBytes l ≡ true
-unfolding allBytes
-all-bytes [] b = refl
-all-bytes (c ∷ l) b = simp (lt-ltb c 256 (b 0), all-bytes l (λ i. b (suc i)))
+pub all-shown : (l : List ℕ) → ((i : ℕ) → getD l i 0 < numbers) → allShown l ≡ true
+unfolding allShown
+all-shown [] b = refl
+all-shown (c ∷ l) b = simp (lt-ltb c numbers (b 0), all-shown l (λ i. b (suc i)))
 
-pub bytes-set : (l : List ℕ) (k v : ℕ) → v < 256 → ((i : ℕ) → getD l i 0 < 256) → (i : ℕ) → getD (set l k v) i 0 < 256
-bytes-set [] k v h b i = b i
-bytes-set (c ∷ l) zero v h b zero = h
-bytes-set (c ∷ l) zero v h b (suc i) = b (suc i)
-bytes-set (c ∷ l) (suc k) v h b zero = b 0
-bytes-set (c ∷ l) (suc k) v h b (suc i) = bytes-set l k v h (λ j. b (suc j)) i
+pub numbered-set : (l : List ℕ) (k v : ℕ) → v < numbers → ((i : ℕ) → getD l i 0 < numbers) → (i : ℕ) → getD (set l k v) i 0 < numbers
+numbered-set [] k v h b i = b i
+numbered-set (c ∷ l) zero v h b zero = h
+numbered-set (c ∷ l) zero v h b (suc i) = b (suc i)
+numbered-set (c ∷ l) (suc k) v h b zero = b 0
+numbered-set (c ∷ l) (suc k) v h b (suc i) = numbered-set l k v h (λ j. b (suc j)) i

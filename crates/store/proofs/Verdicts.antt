@@ -1,13 +1,12 @@
 -- The fault of a store by its parts: 12, then the walk over the shafts, then 6.
 use borrow.Author.Tests.{lt-ltb, le-ltb}
-use mathlib.Core.Bool.{true, false, not}
-use mathlib.Core.Path.{_≡_, refl, sym, ap, _∙_}
+use mathlib.Core.Bool.{true, false}
+use mathlib.Core.Path.{_≡_, sym, _∙_}
 use Prim.Native.Nat.{ℕ, _≤_, _<_}
-use lib.Dec.{ltb}
+use Rattle.marks.proofs.Faulted.{first-stays}
 use Rattle.store.specs.declared.Store.{Store}
 use Rattle.store.specs.Slots.{cassetteCount}
-use Rattle.store.specs.Accept.{given, first, inPlace, shaftsFault, storeFault}
-use Rattle.store.proofs.Faulted.{first-stays}
+use Rattle.store.specs.Accept.{inPlace, shaftsFault, storeFault}
 
 module _ (s : Store) where
   pub out-of-place : inPlace s ≡ false → storeFault s ≡ 12

@@ -9,11 +9,13 @@ use lib.ListN.{length, getD, set, length-set}
 use lib.Seq.{getD-set-same, getD-set-other, ext-getD}
 use Rattle.stacks.specs.Run.{Stacks, Lift, Step}
 use Rattle.stacks.specs.Moves.{lift}
+use Rattle.lifts.specs.Lifting.{mostShafts, mostRows, slotCount, shown, placedAt}
+use Rattle.lifts.proofs.Moving.{placed-length, placed-same, placed-other}
 use Rattle.store.specs.declared.Store.{Store}
-use Rattle.store.specs.Slots.{depth, height, slot, downward, stack}
-use Rattle.store.specs.Lifts.{Allowed, placedAt, lifted}
+use Rattle.store.specs.Slots.{depth, SameFrame, height, slot, downward, stack}
+use Rattle.store.specs.Lifts.{Allowed, lifted}
 use Rattle.store.specs.Sound.{Shaped}
-use Rattle.store.proofs.Rows.{row, slot-row, placed-length, placed-bytes, slot-byte, placed-same, placed-other, stack-length, stack-top, same-rows, rows-same}
+use Rattle.store.proofs.Rows.{placed-numbered, slot-numbered, stack-length, stack-top, same-rows, rows-same}
 
 -- Definition 3.2, slot by slot: the slot left is empty, the slot entered holds the cassette, every other slot is as it was, and so are the heights
 -- but for the two shafts.
@@ -23,7 +25,7 @@ pub record Moved (s : Store) (a b : ℕ) (t : Store) : Type 0 where
   pub lower : suc (height t a) ≡ height s a
   pub higher : height t b ≡ suc (height s b)
   pub others : (x : ℕ) → (x ≡ a → ⊥) → (x ≡ b → ⊥) → height t x ≡ height s x
-  pub kept : (x k : ℕ) → x < 16 → k < 16 → ((x ≡ a) × (suc k ≡ height s a) → ⊥) → ((x ≡ b) × (k ≡ height s b) → ⊥) → slot t x (suc k) ≡ slot s x (suc k)
+  pub kept : (x k : ℕ) → x < mostShafts → k < mostRows → ((x ≡ a) × (suc k ≡ height s a) → ⊥) → ((x ≡ b) × (k ≡ height s b) → ⊥) → slot t x (suc k) ≡ slot s x (suc k)
 
 -- what a lift makes of each height, and of the slots but for the one entered
 module _ (s : Store) (a b : ℕ) (p : Shaped s) (q : Allowed s a b) where
@@ -37,7 +39,7 @@ module _ (s : Store) (a b : ℕ) (p : Shaped s) (q : Allowed s a b) where
   unfolding lifted
   entered-height =
       let l : List ℕ = set (s .heights) a (height s a - 1) in
-      let n : length l ≡ 16 = length-set (s .heights) a (height s a - 1) ∙ p .heights-sized in
+      let n : length l ≡ mostShafts = length-set (s .heights) a (height s a - 1) ∙ p .heights-sized in
       getD-set-same l b (height s b + 1) 0 (omega arith)
 
   other-height : (x : ℕ) → (x ≡ a → ⊥) → (x ≡ b → ⊥) → height (lifted s a b) x ≡ height s x
@@ -46,28 +48,27 @@ module _ (s : Store) (a b : ℕ) (p : Shaped s) (q : Allowed s a b) where
       getD-set-other (set (s .heights) a (height s a - 1)) b x (height s b + 1) 0 j
       ∙ getD-set-other (s .heights) a x (height s a - 1) 0 i
 
-  other-slot : (x n : ℕ) → n ≤ 16 → ((x ≡ b) × (n ≡ suc (height s b)) → ⊥) → slot (lifted s a b) x n ≡ row (placedAt (s .slots) a (height s a) 0) x n
+  other-slot : (x n : ℕ) → n ≤ mostRows → ((x ≡ b) × (n ≡ suc (height s b)) → ⊥) → slot (lifted s a b) x n ≡ shown (placedAt (s .slots) a (height s a) 0) x n
   unfolding lifted
   other-slot x n i d =
-      slot-row (lifted s a b) x n
-      ∙ placed-other (placedAt (s .slots) a (height s a) 0) b (suc (height s b)) (slot s a (height s a)) x n (omega arith) i d
+      placed-other (placedAt (s .slots) a (height s a) 0) b (suc (height s b)) (slot s a (height s a)) x n (omega (arith, q .room, p .rows b)) i d
 
 pub lift-moves : (s : Store) (a b : ℕ) → Shaped s → Allowed s a b → Moved s a b (lifted s a b)
 unfolding lifted
 lift-moves s a b p q =
-    let a-rows : height s a ≤ s .h = p .heights a in
+    let a-rows : height s a ≤ mostRows = omega (arith, p .heights a, p .rows a) in
+    let b-rows : height s b < mostRows = omega (arith, q .room, p .rows b) in
     let l : List ℕ = placedAt (s .slots) a (height s a) 0 in
-    let n : length l ≡ 256 = placed-length (s .slots) a (height s a) 0 ∙ p .slots-sized in
+    let n : length l ≡ slotCount = placed-length (s .slots) a (height s a) 0 ∙ p .slots-sized in
     record {
       gone = other-slot s a b p q a (height s a) (omega arith) (λ z. q .differ (z .0))
           ∙ placed-same (s .slots) a (height s a) 0 (p .slots-sized) (omega arith) (q .taken) (omega arith);
-      placed = slot-row (lifted s a b) b (suc (height s b))
-          ∙ placed-same l b (suc (height s b)) (slot s a (height s a)) n (omega arith) (omega arith) (omega arith);
+      placed = placed-same l b (suc (height s b)) (slot s a (height s a)) n (omega arith) (omega arith) (omega arith);
       lower = omega (arith, left-height s a b p q);
       higher = omega (arith, entered-height s a b p q);
       others = other-height s a b p q;
       kept = λ x k i j d f. other-slot s a b p q x (suc k) j (λ z. f (z .0, omega arith))
-          ∙ placed-other (s .slots) a (height s a) 0 x (suc k) (omega arith) j d ∙ sym (slot-row s x (suc k));
+          ∙ placed-other (s .slots) a (height s a) 0 x (suc k) (omega arith) j d;
     }
 
 -- what holds of both shafts of a lift and of every other shaft holds of all
@@ -80,7 +81,7 @@ at-and-elsewhere P a b u v w x =
 
 -- after a lift nothing stands above the new heights
 module _ (s : Store) (a b : ℕ) (p : Shaped s) (q : Allowed s a b) where
-  left-above : (k : ℕ) → a < 16 → k < 16 → height (lifted s a b) a ≤ k → slot (lifted s a b) a (suc k) ≡ 0
+  left-above : (k : ℕ) → a < mostShafts → k < mostRows → height (lifted s a b) a ≤ k → slot (lifted s a b) a (suc k) ≡ 0
   left-above k i j h =
       let v = lift-moves s a b p q in
       elim (ℕ-discrete (suc k) (height s a)) [
@@ -88,12 +89,12 @@ module _ (s : Store) (a b : ℕ) (p : Shaped s) (q : Allowed s a b) where
         | no n ↦ v .kept a k i j (λ z. n (z .1)) (λ z. q .differ (z .0)) ∙ p .none-above a k i j (omega arith)
       ]
 
-  entered-above : (k : ℕ) → b < 16 → k < 16 → height (lifted s a b) b ≤ k → slot (lifted s a b) b (suc k) ≡ 0
+  entered-above : (k : ℕ) → b < mostShafts → k < mostRows → height (lifted s a b) b ≤ k → slot (lifted s a b) b (suc k) ≡ 0
   entered-above k i j h =
       let v = lift-moves s a b p q in
       v .kept b k i j (λ z. q .differ (sym (z .0))) (omega arith) ∙ p .none-above b k i j (omega arith)
 
-  other-above : (x : ℕ) → (x ≡ a → ⊥) → (x ≡ b → ⊥) → (k : ℕ) → x < 16 → k < 16 → height (lifted s a b) x ≤ k → slot (lifted s a b) x (suc k) ≡ 0
+  other-above : (x : ℕ) → (x ≡ a → ⊥) → (x ≡ b → ⊥) → (k : ℕ) → x < mostShafts → k < mostRows → height (lifted s a b) x ≤ k → slot (lifted s a b) x (suc k) ≡ 0
   other-above x n o k i j h =
       let v = lift-moves s a b p q in
       v .kept x k i j (λ z. n (z .0)) (λ z. o (z .0)) ∙ p .none-above x k i j (omega (arith, v .others x n o))
@@ -106,18 +107,18 @@ lifted-shaped s a b p q =
     record {
       heights-sized = simp length-set (p .heights-sized);
       slots-sized = simp (length-set, placed-length) (p .slots-sized);
-      bytes = placed-bytes (placedAt (s .slots) a (height s a) 0) b (suc (height s b)) _ (slot-byte s a (height s a) (p .bytes)) (placed-bytes (s .slots) a (height s a) 0 (omega arith) (p .bytes));
+      numbered = placed-numbered (placedAt (s .slots) a (height s a) 0) b (suc (height s b)) _ (slot-numbered s a (height s a) (p .numbered)) (placed-numbered (s .slots) a (height s a) 0 (omega arith) (p .numbered));
       shafts = p .shafts;
       rows = p .rows;
-      heights = at-and-elsewhere (λ x. height t x ≤ s .h) a b (omega (arith, p .heights a)) (omega arith)
+      heights = at-and-elsewhere (λ x. height t x ≤ depth s x) a b (omega (arith, p .heights a)) (omega arith)
           (λ x i j. rw (v .others x i j) (p .heights x));
       none-beyond = λ x i. v .others x (omega arith) (omega arith) ∙ p .none-beyond x i;
-      none-above = at-and-elsewhere (λ x. (k : ℕ) → x < 16 → k < 16 → height t x ≤ k → slot t x (suc k) ≡ 0) a b
+      none-above = at-and-elsewhere (λ x. (k : ℕ) → x < mostShafts → k < mostRows → height t x ≤ k → slot t x (suc k) ≡ 0) a b
           (left-above s a b p q) (entered-above s a b p q) (other-above s a b p q);
     }
 
 -- a shaft that holds a cassette is one of the 16
-shaft-below : (s : Store) (x : ℕ) → Shaped s → 0 < height s x → x < 16
+shaft-below : (s : Store) (x : ℕ) → Shaped s → 0 < height s x → x < mostShafts
 shaft-below s x p h =
     elim (decLt x (s .m)) [
       | yes i ↦ omega arith
@@ -129,7 +130,7 @@ module _ (s : Store) (a b : ℕ) (p : Shaped s) (q : Allowed s a b) where
   left-rows : (k : ℕ) → k < height (lifted s a b) a → slot s a (suc k) ≡ slot (lifted s a b) a (suc k)
   left-rows k h =
       let v = lift-moves s a b p q in
-      sym (v .kept a k (omega arith) (omega (arith, p .heights a)) (omega arith) (λ z. q .differ (z .0)))
+      sym (v .kept a k (omega arith) (omega (arith, p .heights a, p .rows a)) (omega arith) (λ z. q .differ (z .0)))
 
   left-stack : stack s a ≡ slot s a (height s a) ∷ stack (lifted s a b) a
   unfolding stack
@@ -140,7 +141,7 @@ module _ (s : Store) (a b : ℕ) (p : Shaped s) (q : Allowed s a b) where
 
   entered-rows : (k : ℕ) → k < height s b → slot (lifted s a b) b (suc k) ≡ slot s b (suc k)
   entered-rows k h =
-      lift-moves s a b p q .kept b k (omega arith) (omega arith) (λ z. q .differ (sym (z .0))) (omega arith)
+      lift-moves s a b p q .kept b k (omega arith) (omega (arith, p .heights b, p .rows b)) (λ z. q .differ (sym (z .0))) (omega arith)
 
   entered-stack : stack (lifted s a b) b ≡ slot s a (height s a) ∷ stack s b
   unfolding stack
@@ -152,7 +153,7 @@ module _ (s : Store) (a b : ℕ) (p : Shaped s) (q : Allowed s a b) where
   other-rows : (x : ℕ) → (x ≡ a → ⊥) → (x ≡ b → ⊥) → (k : ℕ) → k < height s x → slot (lifted s a b) x (suc k) ≡ slot s x (suc k)
   other-rows x i j k h =
       let v = lift-moves s a b p q in
-      v .kept x k (shaft-below s x p (omega arith)) (omega (arith, p .heights x)) (λ z. i (z .0)) (λ z. j (z .0))
+      v .kept x k (shaft-below s x p (omega arith)) (omega (arith, p .heights x, p .rows x)) (λ z. i (z .0)) (λ z. j (z .0))
 
   other-stack : (x : ℕ) → (x ≡ a → ⊥) → (x ≡ b → ⊥) → stack (lifted s a b) x ≡ stack s x
   unfolding stack
@@ -196,7 +197,7 @@ module _ (s t : Store) (p : Shaped s) (q : Shaped t) (g : (x : ℕ) → stack s 
   same-heights : s .heights ≡ t .heights
   same-heights = ext-getD 0 (s .heights) (t .heights) (p .heights-sized ∙ sym (q .heights-sized)) λ x h. same-height x
 
-  same-slot : (x k : ℕ) → x < 16 → k < 16 → slot s x (suc k) ≡ slot t x (suc k)
+  same-slot : (x k : ℕ) → x < mostShafts → k < mostRows → slot s x (suc k) ≡ slot t x (suc k)
   unfolding stack
   same-slot x k i j =
       let e : height s x ≡ height t x = same-height x in
@@ -205,8 +206,8 @@ module _ (s t : Store) (p : Shaped s) (q : Shaped t) (g : (x : ℕ) → stack s 
         | no h ↦ p .none-above x k i j (omega arith) ∙ sym (q .none-above x k i j (omega arith))
       ]
 
-  same-at : (i : ℕ) → i < 256 → getD (s .slots) i 0 ≡ getD (t .slots) i 0
-  unfolding slot
+  same-at : (i : ℕ) → i < slotCount → getD (s .slots) i 0 ≡ getD (t .slots) i 0
+  unfolding shown
   same-at i h =
       let e = same-slot (i / 16) (i % 16) (omega arith) (omega arith) in
       rw div-add-mod at e
@@ -215,6 +216,6 @@ module _ (s t : Store) (p : Shaped s) (q : Shaped t) (g : (x : ℕ) → stack s 
   same-slots =
       ext-getD 0 (s .slots) (t .slots) (p .slots-sized ∙ sym (q .slots-sized)) λ i h. same-at i (omega (arith, p .slots-sized))
 
--- no two shaped stores of the same m and h have the same stacks
-pub same-stacks : (s t : Store) → Shaped s → Shaped t → s .m ≡ t .m → s .h ≡ t .h → ((x : ℕ) → stack s x ≡ stack t x) → s ≡ t
-same-stacks s t p q e f g = λ i. record { m = e i; h = f i; heights = same-heights s t p q g i; slots = same-slots s t p q g i }
+-- no two shaped stores of one frame have the same stacks
+pub same-stacks : (s t : Store) → Shaped s → Shaped t → SameFrame s t → ((x : ℕ) → stack s x ≡ stack t x) → s ≡ t
+same-stacks s t p q f g = λ i. record { m = f .shafts i; h = f .depths i; heights = same-heights s t p q g i; slots = same-slots s t p q g i }

@@ -1,16 +1,16 @@
 -- The walk over the rows and the shafts in the order of an image: a fault once met stays the first, and a walk without a fault met none.
-use borrow.Author.Tests.{ltb-false, eqb-false, lt-ltb, le-ltb, eq-eqb, ne-eqb}
+use borrow.Author.Tests.{ltb-false, lt-ltb, le-ltb}
 use mathlib.Core.List.{List, [], _∷_, _++_, append-assoc}
 use mathlib.Core.Path.{_≡_, refl, sym, ap, _∙_}
 use Prim.Native.Nat.{ℕ, zero, suc, _+_, _≤_, _<_}
 use native.Mathlib.Decide.{decLe}
 use native.Mathlib.Omega.{arith}
-use lib.Dec.{ltb, eqb}
-use Rattle.stacks.specs.Count.{count}
+use Rattle.marks.specs.Cassettes.{first, cassetteFault}
+use Rattle.marks.proofs.Faulted.{first-none, first-skips, first-stays, given-none}
+use Rattle.lifts.specs.Lifting.{shown}
 use Rattle.store.specs.declared.Store.{Store}
-use Rattle.store.specs.Slots.{depth, height, slot, upward, cassettesBelow}
-use Rattle.store.specs.Accept.{given, first, cassetteFault, rowsFault, shaftFault, shaftsFault}
-use Rattle.store.proofs.Faulted.{first-none, first-skips, first-stays, given-none}
+use Rattle.store.specs.Slots.{depth, height, rowsUp, cassettesBelow}
+use Rattle.store.specs.Accept.{rowsFault, shaftFault, shaftsFault}
 
 -- F k is the first fault of the places below k, and G k the fault of place k
 module _ (F G : ℕ → ℕ) (more : (k : ℕ) → F (suc k) ≡ first (F k) (G k)) where
@@ -38,51 +38,32 @@ module _ (F G : ℕ → ℕ) (more : (k : ℕ) → F (suc k) ≡ first (F k) (G 
         | no q ↦ ap G (omega arith) ∙ p .1
       ]
 
-module _ (l : List ℕ) (c : ℕ) where
-  pub zero-refused : c ≡ 0 → cassetteFault l c ≡ 4
-  zero-refused e = simp (eq-eqb c 0 e)
-
-  pub twice-refused : (c ≡ 0 → ⊥) → 0 < count c l → cassetteFault l c ≡ 5
-  twice-refused n h = simp (ne-eqb c 0 n, lt-ltb 0 (count c l) h)
-
-  pub cassette-taken : (c ≡ 0 → ⊥) → count c l ≡ 0 → cassetteFault l c ≡ 0
-  cassette-taken n e = simp (ne-eqb c 0 n, le-ltb 0 (count c l) (omega arith))
-
-  pub taken-cassette : cassetteFault l c ≡ 0 → (c ≡ 0 → ⊥) × (count c l ≡ 0)
-  taken-cassette e =
-      let p = first-none _ _ e in
-      let h : count c l ≤ 0 = ltb-false 0 (count c l) (given-none _ 4 (p .1)) in
-      (eqb-false c 0 (given-none _ 3 (p .0)), omega arith)
-
--- what stands before row k + 1 of shaft x
-abbrev pub before : Store → ℕ → ℕ → List ℕ
-before s x k = cassettesBelow s x ++ upward s x k
-
 -- one row more
-pub row-after : (s : Store) (x k : ℕ) → before s x k ++ (slot s x (suc k) ∷ []) ≡ before s x (suc k)
-unfolding upward
-row-after s x k = append-assoc (cassettesBelow s x) (upward s x k) (slot s x (suc k) ∷ [])
+pub row-after : (before slots : List ℕ) (x k : ℕ) → (before ++ rowsUp slots x k) ++ (shown slots x (suc k) ∷ []) ≡ before ++ rowsUp slots x (suc k)
+unfolding rowsUp
+row-after before slots x k = append-assoc before (rowsUp slots x k) (shown slots x (suc k) ∷ [])
 
-module _ (s : Store) (x : ℕ) where
+module _ (before slots : List ℕ) (x : ℕ) where
   rowFault : ℕ → ℕ
-  rowFault k = cassetteFault (before s x k) (slot s x (suc k))
+  rowFault k = cassetteFault (before ++ rowsUp slots x k) (shown slots x (suc k))
 
-  row-more : (k : ℕ) → rowsFault s x (suc k) ≡ first (rowsFault s x k) (rowFault k)
+  row-more : (k : ℕ) → rowsFault before slots x (suc k) ≡ first (rowsFault before slots x k) (rowFault k)
   unfolding rowsFault rowFault
   row-more k = refl
 
-  pub row-met : (k j v : ℕ) → rowsFault s x k ≡ 0 → cassetteFault (before s x k) (slot s x (suc k)) ≡ v → (v ≡ 0 → ⊥) → k < j
-      → rowsFault s x j ≡ v
+  pub row-met : (k j v : ℕ) → rowsFault before slots x k ≡ 0 → cassetteFault (before ++ rowsUp slots x k) (shown slots x (suc k)) ≡ v → (v ≡ 0 → ⊥) → k < j
+      → rowsFault before slots x j ≡ v
   unfolding rowFault
-  row-met = met (rowsFault s x) rowFault row-more
+  row-met = met (rowsFault before slots x) rowFault row-more
 
-  pub row-passed : (k : ℕ) → rowsFault s x k ≡ 0 → cassetteFault (before s x k) (slot s x (suc k)) ≡ 0 → rowsFault s x (suc k) ≡ 0
+  pub row-passed : (k : ℕ) → rowsFault before slots x k ≡ 0 → cassetteFault (before ++ rowsUp slots x k) (shown slots x (suc k)) ≡ 0
+      → rowsFault before slots x (suc k) ≡ 0
   unfolding rowFault
-  row-passed k e g = here (rowsFault s x) rowFault row-more k e ∙ g
+  row-passed k e g = here (rowsFault before slots x) rowFault row-more k e ∙ g
 
-  pub row-none : (k j : ℕ) → rowsFault s x j ≡ 0 → k < j → cassetteFault (before s x k) (slot s x (suc k)) ≡ 0
+  pub row-none : (k j : ℕ) → rowsFault before slots x j ≡ 0 → k < j → cassetteFault (before ++ rowsUp slots x k) (shown slots x (suc k)) ≡ 0
   unfolding rowFault
-  row-none = none (rowsFault s x) rowFault row-more
+  row-none = none (rowsFault before slots x) rowFault row-more
 
 module _ (s : Store) where
   shaft-more : (x : ℕ) → shaftsFault s (suc x) ≡ first (shaftsFault s x) (shaftFault s x)
@@ -102,8 +83,8 @@ module _ (s : Store) (x : ℕ) where
   pub too-high : depth s x < height s x → shaftFault s x ≡ 3
   too-high h = simp (lt-ltb (depth s x) (height s x) h)
 
-  pub by-rows : height s x ≤ depth s x → shaftFault s x ≡ rowsFault s x (height s x)
+  pub by-rows : height s x ≤ depth s x → shaftFault s x ≡ rowsFault (cassettesBelow s x) (s .slots) x (height s x)
   by-rows h = simp (le-ltb (depth s x) (height s x) h)
 
-  pub not-too-high : shaftFault s x ≡ 0 → (height s x ≤ depth s x) × (rowsFault s x (height s x) ≡ 0)
+  pub not-too-high : shaftFault s x ≡ 0 → (height s x ≤ depth s x) × (rowsFault (cassettesBelow s x) (s .slots) x (height s x) ≡ 0)
   not-too-high e = let p = first-none _ _ e in (ltb-false (depth s x) (height s x) (given-none _ 2 (p .0)), p .1)

@@ -1,7 +1,7 @@
 pub mod Accept
+pub mod Checking
 pub mod Lifts
 pub mod Lists
-pub mod Marking
 pub mod Numbers
 pub mod Promises
 pub mod Slots

@@ -2,14 +2,13 @@
 use mathlib.Core.List.{List}
 use mathlib.Core.Path.{_≡_}
 use Prim.Native.Nat.{ℕ, zero, suc}
+use Rattle.marks.specs.Marking.{noMarks, withMarks}
+use Rattle.lifts.specs.Numbers.{Only}
 use Rattle.store.specs.declared.Store.{Store}
 use Rattle.store.specs.declared.Checked.{Checked}
 use Rattle.store.specs.declared.Lifted.{Lifted}
-use Rattle.store.specs.declared.Replayed.{Replayed}
 use Rattle.store.specs.Lifts.{liftNumber, afterLift}
-use Rattle.store.specs.Lists.{Outcome}
-use Rattle.store.specs.Marking.{noMarks, withMarks}
-use Rattle.store.specs.Numbers.{Only, verdictNumber, answerNumber, endNumber}
+use Rattle.store.specs.Numbers.{verdictNumber, answerNumber}
 
 -- the marks of a list of cassettes, none where there is a fault
 abbrev pub marksUnless : ℕ → List ℕ → List ℕ
@@ -19,15 +18,9 @@ marksUnless (suc k) l = noMarks
 -- A check that looked for the fault f among the cassettes l gave the verdict with its number, and marks for them.
 pub record CheckIs (f : ℕ) (l : List ℕ) (r : Checked) : Type 0 where
   pub verdict : Only verdictNumber f (r .verdict)
-  pub marks : r .marks .words ≡ marksUnless f l
+  pub marks : r .marks ≡ marksUnless f l
 
 -- A single lift gave the answer with its number, and the store after it.
 pub record LiftIs (s : Store) (a b : ℕ) (r : Lifted) : Type 0 where
   pub answer : Only answerNumber (liftNumber s a b) (r .answer)
   pub store : r .store ≡ afterLift s a b
-
--- A replay came to an outcome.
-pub record ReplayIs (o : Outcome) (r : Replayed) : Type 0 where
-  pub store : r .store ≡ o .reached
-  pub count : r .count ≡ o .count
-  pub end : Only endNumber (o .number) (r .end)

@@ -2,53 +2,77 @@
 -- for each shaft; and a number for each slot, 16 slots for a shaft, from row 1 at the bottom.
 use mathlib.Core.Bool.{Bool, cond, _&&_}
 use mathlib.Core.List.{List, [], _∷_, _++_}
-use Prim.Native.Nat.{ℕ, zero, suc, _+_, _-_, _*_}
+use mathlib.Core.Path.{_≡_}
+use Prim.Native.Nat.{ℕ, zero, suc, _+_, _-_, _*_, _≤_}
 use lib.Dec.{leb, ltb}
-use lib.ListN.{length, getD}
+use lib.ListN.{length}
+use Rattle.stacks.specs.Count.{sum, greatest}
+use Rattle.lifts.specs.Lifting.{mostShafts, mostRows, heightIn, shown}
 use Rattle.store.specs.declared.Store.{Store}
 
--- "all of depth h"
+-- a store of its parts
+abbrev pub held : ℕ → ℕ → List ℕ → List ℕ → Store
+held m h heights slots = record { m = m; h = h; heights = heights; slots = slots }
+
+-- "all of depth h": the depth of shaft x
+unfoldable pub depthBy : ℕ → ℕ → ℕ
+depthBy h x = h
+
 abbrev pub depth : Store → ℕ → ℕ
-depth s x = s .h
+depth s x = depthBy (s .h) x
 
--- "The height of a shaft is how many cassettes it has": as the value states it
+-- no shaft is deeper than the arrays have rows
+abbrev pub DepthsFit : ℕ → Type 0
+DepthsFit h = (x : ℕ) → depthBy h x ≤ mostRows
+
+-- the depth of the deepest shaft
+unfoldable pub deepest : Store → ℕ
+deepest s = greatest (s .m) (depth s)
+
+-- Two stores have the same shafts and depths.
+pub record SameFrame (s t : Store) : Type 0 where
+  pub shafts : s .m ≡ t .m
+  pub depths : s .h ≡ t .h
+
 abbrev pub height : Store → ℕ → ℕ
-height s x = getD (s .heights) x 0
+height s x = heightIn (s .heights) x
 
--- The content of shaft x at row y, 0 for empty: C(x, y) of Definition 3.1, with shafts from 0. "Rows count from 1": there is no row 0.
-unfoldable pub slot : Store → ℕ → ℕ → ℕ
-slot s x zero = 0
-slot s x (suc k) = getD (s .slots) (16 * x + k) 0
+-- the content of shaft x at row y, 0 for empty: C(x, y) of Definition 3.1, with shafts from 0
+abbrev pub slot : Store → ℕ → ℕ → ℕ
+slot s x y = shown (s .slots) x y
 
 -- the store has row y of shaft x: by its m and the shaft's depth, and within the 16 by 16 slots that any value records
 abbrev pub hasSlot : Store → ℕ → ℕ → Bool
-hasSlot s x y = ((ltb x (s .m) && ltb x 16) && ltb 0 y) && (leb y (depth s x) && leb y 16)
+hasSlot s x y = ((ltb x (s .m) && ltb x mostShafts) && ltb 0 y) && (leb y (depth s x) && leb y mostRows)
 
 -- what a caller who names a shaft and a row is told: 0 where the store has no such slot
 unfoldable pub contentOf : Store → ℕ → ℕ → ℕ
-unfolding slot
 contentOf s x y = cond (hasSlot s x y) (slot s x y) 0
 
--- rows 1 to k of shaft x, read upward
-unfoldable pub upward : Store → ℕ → ℕ → List ℕ
-unfolding slot
-upward s x zero = []
-upward s x (suc k) = upward s x k ++ (slot s x (suc k) ∷ [])
+-- rows 1 to k of shaft x in a list of slots, read upward
+unfoldable pub rowsUp : List ℕ → ℕ → ℕ → List ℕ
+rowsUp slots x zero = []
+rowsUp slots x (suc k) = rowsUp slots x k ++ (shown slots x (suc k) ∷ [])
 
--- rows 1 to k of shaft x, read downward
-unfoldable pub downward : Store → ℕ → ℕ → List ℕ
-unfolding slot
-downward s x zero = []
-downward s x (suc k) = slot s x (suc k) ∷ downward s x k
+abbrev pub upward : Store → ℕ → ℕ → List ℕ
+upward s = rowsUp (s .slots)
+
+-- and read downward
+unfoldable pub rowsDown : List ℕ → ℕ → ℕ → List ℕ
+rowsDown slots x zero = []
+rowsDown slots x (suc k) = shown slots x (suc k) ∷ rowsDown slots x k
+
+abbrev pub downward : Store → ℕ → ℕ → List ℕ
+downward s = rowsDown (s .slots)
 
 -- what stands in shaft x, the top first
 unfoldable pub stack : Store → ℕ → List ℕ
-unfolding downward
+unfolding rowsDown
 stack s x = downward s x (height s x)
 
 -- the cassettes of the shafts below x, in the order of an image: "for each shaft from 0 .. its cassettes from row 1 upward"
 unfoldable pub cassettesBelow : Store → ℕ → List ℕ
-unfolding upward
+unfolding rowsUp
 cassettesBelow s zero = []
 cassettesBelow s (suc x) = cassettesBelow s x ++ upward s x (height s x)
 
@@ -56,16 +80,19 @@ unfoldable pub cassettes : Store → List ℕ
 unfolding cassettesBelow
 cassettes s = cassettesBelow s (s .m)
 
--- "n is the count of cassettes, e = m × h − n the count of empty slots"
+-- "n is the count of cassettes, e = m × h − n the count of empty slots": the sum of the depths less n
 unfoldable pub cassetteCount : Store → ℕ
 unfolding cassettes
 cassetteCount s = length (cassettes s)
 
 unfoldable pub emptyCount : Store → ℕ
 unfolding cassetteCount
-emptyCount s = s .m * s .h - cassetteCount s
+emptyCount s = sum (s .m) (depth s) - cassetteCount s
 
--- "The list space needed is 4hn + 8n bytes"
+-- "The list space needed is 4hn + 8n bytes": h is the depth of the deepest shaft
+abbrev pub spaceFor : ℕ → ℕ → ℕ
+spaceFor h n = 4 * h * n + 8 * n
+
 unfoldable pub listSpace : Store → ℕ
-unfolding cassetteCount
-listSpace s = 4 * s .h * cassetteCount s + 8 * cassetteCount s
+unfolding cassetteCount deepest
+listSpace s = spaceFor (deepest s) (cassetteCount s)

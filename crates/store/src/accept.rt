@@ -1,49 +1,51 @@
 // Acceptance of a store given as a value (document 01, "Which comes first"): the first fault in order, for every value whatever.
 use crate::Checked;
 use crate::Fault;
-use crate::Marks;
 use crate::Store;
 use crate::Verdict;
-use crate::wide;
-ghost use mathlib.Core.Bool.{_||_};
+use crate::depth_of;
+use lifts::Heights;
+use lifts::Slots;
+use lifts::height_at;
+use lifts::slot_at;
+use marks::Taken;
+use marks::Words;
+use marks::count;
+use marks::none;
+use marks::take;
 ghost use mathlib.Core.Path.{_≡_};
-ghost use lib.Dec.{ltb, eqb};
-ghost use Prim.Native.Nat.{suc, _≤_, _<_};
-ghost use Rattle.store.specs.Slots.{height, cassettesBelow, cassettes};
-ghost use Rattle.store.specs.Accept.{allBelow, usable, shaftInPlace, inPlace, rowsFault, shaftsFault, storeFault};
-ghost use Rattle.store.specs.Marking.{noMarks, withMarks};
+ghost use Prim.Native.Nat.{_≤_, _<_};
+ghost use Rattle.marks.specs.Marking.{noMarks};
+ghost use Rattle.lifts.specs.Lifting.{mostShafts, mostRows};
+ghost use Rattle.store.specs.Slots.{held, DepthsFit, cassettes};
+ghost use Rattle.store.specs.Accept.{allBelow, fillable, shaftInPlace, frameInRange, storeFault};
+ghost use Rattle.store.specs.Checking.{RowsAre, ShaftsAre};
 ghost use Rattle.store.specs.Promises.{CheckIs};
 
 // How many slots of a shaft may hold something.
-fn usable_rows(s: Store, x: usize) -> usize
-    requires { ⌜ x < 16 ⌝ }
-    ensures { λ r. ⌜ r ≡ usable s x ⌝ }
+fn fillable_rows(m: u8, heights: &Heights, x: usize) -> usize
+    requires { ⌜ x < mostShafts ⌝ }
+    ensures { λ r. ⌜ r ≡ fillable m (now (heights .entry)) x ⌝ }
 {
-    if x < wide(s.m) { wide(s.heights[x]) } else { 0 }
-}
-
-// Whether row k + 1 of a shaft with so many usable rows holds nothing, or may hold something.
-fn slot_in_place(rows: usize, k: usize, c: u8) -> bool
-    ensures { λ r. ⌜ r ≡ (ltb k rows || eqb c 0) ⌝ }
-{
-    if k < rows {
-        return true;
+    if x < m as usize {
+        height_at(heights, x) as usize
+    } else {
+        0
     }
-    c == 0
 }
 
 // Whether nothing is recorded above a shaft's height, nor for a shaft not below m.
-fn shaft_in_place(s: Store, x: usize) -> bool
-    requires { ⌜ x < 16 ⌝ }
-    ensures { λ r. ⌜ r ≡ shaftInPlace s x ⌝ }
+fn shaft_in_place(m: u8, heights: &Heights, slots: &Slots, x: usize) -> bool
+    requires { ⌜ x < mostShafts ⌝ }
+    ensures { λ r. ⌜ r ≡ shaftInPlace m (now (heights .entry)) (now (slots .entry)) x ⌝ }
 {
-    let rows = usable_rows(s, x);
-    if rows < wide(s.heights[x]) {
+    let rows = fillable_rows(m, heights, x);
+    if rows < height_at(heights, x) as usize {
         return false;
     }
-    let mut k: usize = 0;
+    let mut k = rows;
     while k < 16 {
-        if !slot_in_place(rows, k, s.slots[16 * x + k]) {
+        if slot_at(slots, 16 * x + k) != 0 {
             return false;
         }
         k += 1;
@@ -51,12 +53,12 @@ fn shaft_in_place(s: Store, x: usize) -> bool
     true
 }
 
-fn shafts_in_place(s: Store) -> bool
-    ensures { λ r. ⌜ r ≡ allBelow 16 (shaftInPlace s) ⌝ }
+fn shafts_in_place(m: u8, heights: &Heights, slots: &Slots) -> bool
+    ensures { λ r. ⌜ r ≡ allBelow mostShafts (shaftInPlace m (now (heights .entry)) (now (slots .entry))) ⌝ }
 {
     let mut x: usize = 0;
     while x < 16 {
-        if !shaft_in_place(s, x) {
+        if !shaft_in_place(m, heights, slots, x) {
             return false;
         }
         x += 1;
@@ -64,83 +66,70 @@ fn shafts_in_place(s: Store) -> bool
     true
 }
 
-// Whether number 12 does not apply.
-fn in_place(s: Store) -> bool
-    ensures { λ r. ⌜ r ≡ inPlace s ⌝ }
+// "m or h outside 1 to 16"
+fn frame_in_range(m: u8, h: u8) -> bool
+    ensures { λ r. ⌜ r ≡ frameInRange m h ⌝ }
 {
-    if s.m == 0 {
+    if m == 0 {
         return false;
     }
-    if s.m > 16 {
+    if m > 16 {
         return false;
     }
-    if s.h == 0 {
+    if h == 0 {
         return false;
     }
-    if s.h > 16 {
-        return false;
-    }
-    shafts_in_place(s)
+    h <= 16
 }
 
-fn refused(f: Fault) -> Checked
-    ensures { λ r. ⌜ (r .verdict ≡ Verdict.Refused f) × (r .marks .words ≡ noMarks) ⌝ }
+// The rows of one shaft, taken one after the other.
+fn check_rows(slots: &Slots, x: usize, rows: usize, marks: &mut Words) -> Verdict
+    requires { ⌜ (x < mostShafts) × (rows ≤ mostRows) ⌝ }
+    ensures { λ r. ⌜ RowsAre (now (marks .entry)) (now (slots .entry)) x rows (now (marks .exit)) r ⌝ }
 {
-    Checked {
-        verdict: Verdict::Refused(f),
-        marks: Marks::none(),
-    }
-}
-
-// The rows of one shaft, checked against the cassettes of the shafts before it, whose marks are handed in.
-fn check_rows(s: Store, x: usize, before: Marks) -> Checked
-    requires { ⌜ (x < 16) × (height s x ≤ 16) ⌝ }
-    requires { ⌜ before .words ≡ withMarks noMarks (cassettesBelow s x) ⌝ }
-    ensures { λ r. ⌜ CheckIs (rowsFault s x (height s x)) (cassettesBelow s (suc x)) r ⌝ }
-{
-    let rows = wide(s.heights[x]);
-    let mut marks = before;
     let mut k: usize = 0;
     while k < rows {
-        let c = s.slots[16 * x + k];
-        if c == 0 {
-            return refused(Fault::NumberZero);
+        match take(marks, slot_at(slots, 16 * x + k)) {
+            Taken::Added => {}
+            Taken::NumberZero => {
+                return Verdict::Refused(Fault::NumberZero);
+            }
+            Taken::Twice => {
+                return Verdict::Refused(Fault::Twice);
+            }
         }
-        if marks.has(c) {
-            return refused(Fault::Twice);
-        }
-        marks = marks.with(c);
         k += 1;
     }
-    Checked {
-        verdict: Verdict::Accepted,
-        marks,
-    }
+    Verdict::Accepted
 }
 
 // The shafts in the order of an image, each with its height and then its rows.
-fn check_shafts(s: Store) -> Checked
-    requires { ⌜ (s .m ≤ 16) × (s .h ≤ 16) ⌝ }
-    ensures { λ r. ⌜ CheckIs (shaftsFault s (s .m)) (cassettes s) r ⌝ }
+fn check_shafts(m: u8, h: u8, heights: &Heights, slots: &Slots, marks: &mut Words) -> Verdict
+    requires { ⌜ (m ≤ mostShafts) × DepthsFit h ⌝ }
+    requires { ⌜ now marks ≡ noMarks ⌝ }
+    ensures { λ r. ⌜ ShaftsAre (held m h (now (heights .entry)) (now (slots .entry))) (now (marks .exit)) r ⌝ }
 {
-    let shafts = wide(s.m);
-    let mut marks = Marks::none();
+    let shafts = m as usize;
     let mut x: usize = 0;
     while x < shafts {
-        if s.h < s.heights[x] {
-            return refused(Fault::TooHigh);
+        let rows = height_at(heights, x);
+        if depth_of(h, x) < rows {
+            return Verdict::Refused(Fault::TooHigh);
         }
-        let checked = check_rows(s, x, marks);
-        let verdict = checked.verdict;
-        if let Verdict::Refused(f) = verdict {
-            return refused(f);
+        if let Verdict::Refused(f) = check_rows(slots, x, rows as usize, marks) {
+            return Verdict::Refused(f);
         }
-        marks = checked.marks;
         x += 1;
     }
+    Verdict::Accepted
+}
+
+fn refused(f: Fault) -> Checked
+    ensures { λ r. ⌜ (r .verdict ≡ Verdict.Refused f) × (r .marks ≡ noMarks) ⌝ }
+{
     Checked {
-        verdict: Verdict::Accepted,
-        marks,
+        verdict: Verdict::Refused(f),
+        marks: none(),
     }
 }
 
@@ -149,16 +138,19 @@ impl Store {
     pub fn check(self) -> Checked
         ensures { λ r. ⌜ CheckIs (storeFault self) (cassettes self) r ⌝ }
     {
-        if !in_place(self) {
+        let heights = self.heights;
+        let slots = self.slots;
+        if !frame_in_range(self.m, self.h) {
             return refused(Fault::OutOfPlace);
         }
-        let checked = check_shafts(self);
-        let verdict = checked.verdict;
-        if let Verdict::Refused(f) = verdict {
+        if !shafts_in_place(self.m, &heights, &slots) {
+            return refused(Fault::OutOfPlace);
+        }
+        let mut marks = none();
+        if let Verdict::Refused(f) = check_shafts(self.m, self.h, &heights, &slots, &mut marks) {
             return refused(f);
         }
-        let marks = checked.marks;
-        if 255 < marks.count() {
+        if 255 < count(marks) {
             return refused(Fault::TooMany);
         }
         Checked {

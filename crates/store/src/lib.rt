@@ -1,31 +1,25 @@
-// The cassette store: what stands where, whether a store given as a value is accepted, single lifts, and the replay of a list of
-// lifts (document 01, "The store", "The list"; document 000, Definitions 3.1 and 3.2). The definitions that the contracts cite are
-// in specs/.
+// The cassette store: what stands where, whether a store given as a value is accepted, and single lifts (document 01, "The store";
+// document 000, Definitions 3.1 and 3.2). The definitions that the contracts cite are in specs/.
 pub mod accept;
-pub mod byte;
 pub mod lift;
-pub mod marking;
 pub mod number;
-pub mod replay;
 
+use lifts::Heights;
+use lifts::Refusal;
+use lifts::Slots;
+use marks::Words;
 ghost use mathlib.Core.Path.{_≡_};
-
-// "A shaft is counted from 0 and a row from 1, so neither is accepted where the other is due."
-pub struct Shaft(pub u8);
-
-pub struct Row(pub u8);
+ghost use Prim.Native.Nat.{_-_, _*_, _≤_, _<_};
+ghost use Rattle.stacks.specs.Count.{sum, greatest};
+ghost use Rattle.lifts.specs.Lifting.{mostShafts, slotCount};
+ghost use Rattle.store.specs.Slots.{depthBy, DepthsFit, spaceFor};
 
 // m shafts of depth h; the height of each shaft; and the slots, 16 for a shaft from row 1 upward, 0 for an empty one.
 pub struct Store {
     pub m: u8,
     pub h: u8,
-    pub heights: [u8; 16],
-    pub slots: [u8; 256],
-}
-
-// The cassettes present: bit c % 64 of word c / 64 stands for cassette c.
-pub struct Marks {
-    pub words: [u64; 4],
+    pub heights: Heights,
+    pub slots: Slots,
 }
 
 // Why a store given as a value is refused: 12, 3, 4, 5, 6.
@@ -46,14 +40,7 @@ pub enum Verdict {
 // A checked store's verdict, and the marks of its cassettes, none where it is refused.
 pub struct Checked {
     pub verdict: Verdict,
-    pub marks: Marks,
-}
-
-// Why a lift on an accepted store is refused: 11, 13, 14.
-pub enum Refusal {
-    Shafts,
-    Empty,
-    Full,
+    pub marks: Words,
 }
 
 // How a single lift is answered.
@@ -69,23 +56,36 @@ pub struct Lifted {
     pub answer: Answer,
 }
 
-// How a replay ends.
-pub enum End {
-    RunThrough,
-    Stopped(Refusal),
-    StoreRefused(Fault),
-}
-
-// The store reached, the count of lifts done, and how the replay ended.
-pub struct Replayed {
-    pub store: Store,
-    pub count: usize,
-    pub end: End,
-}
-
-// A byte as an index.
-pub fn wide(x: u8) -> usize
-    ensures { λ r. ⌜ r ≡ x ⌝ }
+// "all of depth h": the depth of a shaft.
+pub fn depth_of(h: u8, x: usize) -> u8
+    ensures { λ r. ⌜ r ≡ depthBy h x ⌝ }
 {
-    x as usize
+    h
+}
+
+// The depth of the deepest of m shafts.
+fn deepest_of(m: u8, h: u8) -> u8
+    requires { ⌜ 0 < m ⌝ }
+    ensures { λ r. ⌜ r ≡ greatest m (depthBy h) ⌝ }
+{
+    h
+}
+
+// e: how many slots of m shafts that hold n cassettes are empty.
+pub fn empty_slots(m: u8, h: u8, n: usize) -> usize
+    requires { ⌜ (m ≤ mostShafts) × DepthsFit h ⌝ }
+    requires { ⌜ n ≤ sum m (depthBy h) ⌝ }
+    ensures { λ r. ⌜ r ≡ sum m (depthBy h) - n ⌝ }
+{
+    m as usize * (h as usize) - n
+}
+
+// "The list space needed is 4hn + 8n bytes"
+pub fn list_space(m: u8, h: u8, n: usize) -> usize
+    requires { ⌜ (0 < m) × DepthsFit h ⌝ }
+    requires { ⌜ n ≤ slotCount ⌝ }
+    ensures { λ r. ⌜ r ≡ spaceFor (greatest m (depthBy h)) n ⌝ }
+{
+    let most = deepest_of(m, h) as usize;
+    4 * most * n + 8 * n
 }

@@ -1,10 +1,11 @@
 // Runs stores, lifts and replays beyond the proved cases and prints the number that each gets (0: nothing refused). Held to the file stdout.
 use libc::STDOUT_FILENO;
-use store::Row;
-use store::Shaft;
+use lifts::Row;
+use lifts::Shaft;
+use replay::end_number;
+use replay::replay;
 use store::Store;
 use store::number::answer_number;
-use store::number::end_number;
 use store::number::verdict_number;
 
 fn say(what: &[u8], number: u8) {
@@ -131,8 +132,8 @@ fn lift_cases() {
     lift(b"lift in a store of m 0: ", empty(0, 1), 0, 1);
 }
 
-fn replay(what: &[u8], s: Store, list: &[u8]) {
-    let replayed = s.replay(list);
+fn show_replay(what: &[u8], s: Store, list: &[u8]) {
+    let replayed = replay(s, list);
     let end = replayed.end;
     say(what, end_number(end));
     io::write_all(STDOUT_FILENO, b"  lifts done: ");
@@ -147,8 +148,8 @@ fn main() {
     check_cases();
     content_cases();
     lift_cases();
-    replay(b"02 10 21 on [1] [2] []: ", singles(), b"\x02\x10\x21");
-    replay(b"02 21 00 on [1] [2] []: ", singles(), b"\x02\x21\x00");
-    replay(b"an empty list on [1] [2] []: ", singles(), b"");
-    replay(b"02 on a store of m 200: ", empty(200, 1), b"\x02");
+    show_replay(b"02 10 21 on [1] [2] []: ", singles(), b"\x02\x10\x21");
+    show_replay(b"02 21 00 on [1] [2] []: ", singles(), b"\x02\x21\x00");
+    show_replay(b"an empty list on [1] [2] []: ", singles(), b"");
+    show_replay(b"02 on a store of m 200: ", empty(200, 1), b"\x02");
 }

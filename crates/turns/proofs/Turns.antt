@@ -14,12 +14,15 @@ use Rattle.stacks.proofs.RoundLaws.{turn-legal, turned}
 use Rattle.store.specs.Slots.{downward, stack}
 use Rattle.store.specs.Lifts.{Allowed}
 use Rattle.store.proofs.Rows.{stack-length}
-use Rattle.moves.specs.Carried.{CanCarry, CarriedIs}
-use Rattle.moves.proofs.Carrying.{can-carry, CarriedOn, carried-on, went-none, went-within}
+use Rattle.lifts.specs.Carried.{CanCarry}
+use Rattle.moves.specs.Put.{PutIs}
+use Rattle.store.proofs.Lifting.{can-carry}
+use Rattle.moves.proofs.Carrying.{CarriedOn, carried-on, went-none, went-within}
 use Rattle.placing.specs.declared.Frame.{Frame}
 use Rattle.placing.specs.declared.Spot.{Spot}
 use Rattle.placing.specs.declared.ahead.Ahead.{Ahead}
-use Rattle.placing.specs.Frames.{storeOf, depthIn, heightIn, Fits}
+use Rattle.lifts.specs.Lifting.{heightIn}
+use Rattle.placing.specs.Frames.{storeOf, depthIn, Fits}
 use Rattle.placing.specs.Placed.{CanSee, AheadIs}
 use Rattle.placing.proofs.Bottoms.{rows-length, legal-allowed, shaped-fits}
 use Rattle.choices.specs.Choices.{wantedIn, Stands}
@@ -27,6 +30,10 @@ use Rattle.turns.specs.declared.Owed.{Owed}
 use Rattle.turns.specs.Turning.{passedRows, OnTheWay, Ready, ThirdIs, LentIs, OwedIs, TurnedIs}
 use Rattle.turns.proofs.OneLift.{run-one}
 use Rattle.turns.proofs.Way.{passed-length, stands-over, over-stands, done-now, done-floor, tops-deep, fewer-passed, way-after}
+
+-- what is ahead is few: both shafts have at most 16 rows
+pub ahead-few : (f : Frame) (heights : List ℕ) (a y b y′ : ℕ) (n : Ahead) → Fits f heights → AheadIs f heights a y b y′ n → n .cover + n .load ≤ 33
+ahead-few f heights a y b y′ n k p = omega (arith, p .cover, p .in-way, k .within a, k .rows a, k .within b, k .rows b)
 
 -- what is passed after the top of c was lent
 pub record Lowered (f : Frame) (b c : ℕ) (done heights done′ : List ℕ) (o : Owed) : Type 0 where
@@ -167,10 +174,10 @@ module _ {f : Frame} {tops goal done heights slots : List ℕ} {at to : Spot} (r
             (turn-legal (way .halfway .passed) over-low (n .cover) (n .load) (r .stands .usable) (r .usable) (r .differ) place covered in-the-way both-full (t .usable) (t .not-first)
             (t .not-second) top)
 
-        pub turn-ready : count < length came → CanCarry heights slots c (to .shaft .0) × (count < length came)
-        turn-ready h = (can-carry (f .m) (f .h) heights slots c (to .shaft .0) (r .way .held .shaped) allowed, h)
+        pub turn-ready : count < length came → CanCarry heights c (to .shaft .0) × (count < length came)
+        turn-ready h = (can-carry (storeOf f heights slots) c (to .shaft .0) (r .way .held .shaped) allowed, h)
 
-        pub turned-is : count < length came → {heights′ slots′ out : List ℕ} {count′ : ℕ} → CarriedIs heights slots c (to .shaft .0) count came heights′ slots′ count′ out
+        pub turned-is : count < length came → {heights′ slots′ out : List ℕ} {count′ : ℕ} → PutIs heights slots c (to .shaft .0) count came heights′ slots′ count′ out
             → TurnedIs f tops goal done heights slots at to count came done′ heights′ slots′ (record { owed = o; count = count′ }) out
         turned-is h {heights′} {slots′} {out} {count′} k = go (carried-on (f .m) (f .h) (r .way .held .shaped) allowed h k)
           where

@@ -2,48 +2,33 @@
 -- passed or given up.
 use mathlib.Core.List.{List, [], _∷_}
 use mathlib.Core.Logic.{_≢_}
-use mathlib.Core.Path.{_≡_, refl, sym, ap, _∙_}
-use Prim.Native.Nat.{ℕ, zero, suc, _+_, _-_, _*_, _≤_, _<_}
+use mathlib.Core.Path.{_≡_, refl, ap, _∙_}
+use Prim.Native.Nat.{ℕ, suc, _+_, _-_, _≤_, _<_}
 use native.Mathlib.Omega.{arith}
-use lib.ListN.{length, getD}
+use lib.ListN.{length}
 use Rattle.stacks.specs.Run.{Lift, Usable, Run}
 use Rattle.stacks.specs.Placing.{Onto, Passed, Over}
 use Rattle.stacks.proofs.Bottoms.{onto-length, onto-all, onto-both}
 use Rattle.stacks.proofs.Sums.{everywhere}
 use Rattle.stacks.proofs.RoundLaws.{halfway-after, halfway-less, halfway-more, find}
 use Rattle.store.specs.declared.Store.{Store}
-use Rattle.store.specs.Slots.{height, slot, downward, stack}
+use Rattle.store.specs.Slots.{height, slot, downward, stack, rowsDown}
 use Rattle.store.proofs.Rows.{stack-length}
-use Rattle.moves.specs.Carried.{held}
+use Rattle.store.specs.Slots.{held}
 use Rattle.placing.specs.declared.Frame.{Frame}
-use Rattle.placing.specs.Frames.{storeOf, depthIn, heightIn, Held}
+use Rattle.lifts.specs.Lifting.{heightIn}
+use Rattle.placing.specs.Frames.{storeOf, depthIn, Held}
 use Rattle.placing.proofs.Bottoms.{rows-length, rows-onto, stack-onto, row-onto}
-use Rattle.choices.specs.Choices.{rowsIn, wantedIn, Stands}
+use Rattle.store.specs.Slots.{rowsDown}
+use Rattle.choices.specs.Choices.{wantedIn, Stands}
 use Rattle.turns.specs.Turning.{passedRows, OnTheWay}
-
--- slots and rows are those of the list of slots, whatever the frame
-slot-of : (m h x y : ℕ) (heights slots : List ℕ) → slot (held m h heights slots) x y ≡ slot (held 0 0 [] slots) x y
-unfolding slot
-slot-of m h x zero heights slots = refl
-slot-of m h x (suc k) heights slots = refl
-
-rows-of : (m h x k : ℕ) (heights slots : List ℕ) → downward (held m h heights slots) x k ≡ rowsIn slots x k
-unfolding downward slot
-rows-of m h x zero heights slots = refl
-rows-of m h x (suc k) heights slots = ap (λ (l : List ℕ). getD slots (16 * x + k) 0 ∷ l) (rows-of m h x k heights slots)
-
-pub slot-in : (f : Frame) (heights slots : List ℕ) (x y : ℕ) → slot (storeOf f heights slots) x y ≡ slot (held 0 0 [] slots) x y
-slot-in f heights slots x y = slot-of (f .m) (f .h) x y heights slots
-
-pub rows-in : (s : Store) (x k : ℕ) → downward s x k ≡ rowsIn (s .slots) x k
-rows-in s x k = rows-of (s .m) (s .h) x k (s .heights) (s .slots)
 
 pub passed-length : (goal done : List ℕ) (x : ℕ) → length (passedRows goal done x) ≡ heightIn done x
 passed-length goal done x = rows-length (held 0 0 [] goal) x (heightIn done x)
 
 -- a cassette that stands on p in the stack of x shows in its row
 shows-in : (s : Store) (x v k : ℕ) (p : List ℕ) → Onto (v ∷ p) (stack s x) → length p ≡ k → slot s x (suc k) ≡ v
-unfolding downward
+unfolding rowsDown
 shows-in s x v k p o e =
     let low : suc k ≤ height s x = omega (arith, onto-length o, stack-length s x) in
     let same : v ∷ p ≡ slot s x (suc k) ∷ downward s x k
@@ -54,7 +39,7 @@ module _ (f : Frame) (goal done heights slots : List ℕ) {v a y : ℕ} where
   pub stands-over : Stands f heights slots done v a y
       → Over (passedRows goal done) (stack (storeOf f heights slots)) v a (downward (storeOf f heights slots) a (y - 1))
   stands-over t = record {
-    stands = rw (slot-in f heights slots a y, t .shows) at (row-onto (storeOf f heights slots) a y (omega (arith, t .unpassed)) (t .standing));
+    stands = rw (t .shows) at (row-onto (storeOf f heights slots) a y (omega (arith, t .unpassed)) (t .standing));
     unpassed = omega (arith, passed-length goal done a, rows-length (storeOf f heights slots) a (y - 1), t .unpassed);
   }
 
@@ -63,7 +48,7 @@ module _ (f : Frame) (goal done heights slots : List ℕ) {v a y : ℕ} where
     usable = u;
     unpassed = omega (arith, o .unpassed, passed-length goal done a);
     standing = omega (arith, onto-length (o .stands), stack-length (storeOf f heights slots) a);
-    shows = sym (slot-of (f .m) (f .h) a y heights slots) ∙ ap (slot (storeOf f heights slots) a) e ∙ shows-in (storeOf f heights slots) a v (length p) p (o .stands) refl;
+    shows = ap (slot (storeOf f heights slots) a) e ∙ shows-in (storeOf f heights slots) a v (length p) p (o .stands) refl;
   }
 
 module _ {f : Frame} {tops goal done heights slots : List ℕ} (w : OnTheWay f tops goal done heights slots) where
@@ -81,7 +66,7 @@ module _ {f : Frame} {tops goal done heights slots : List ℕ} (w : OnTheWay f t
   pub goal-next : (b : ℕ) → heightIn done b < heightIn tops b → Onto (wantedIn goal done b ∷ passedRows goal done b) (stack (storeOf f tops goal) b)
   goal-next b h =
       let e : suc (heightIn done b) - 1 ≡ heightIn done b = omega arith in
-      rw (e, slot-of (f .m) (f .h) b (suc (heightIn done b)) tops goal, rows-of (f .m) (f .h) b (heightIn done b) tops goal) at
+      rw e at
       (row-onto (storeOf f tops goal) b (suc (heightIn done b)) (omega arith) h)
 
   -- the rows under a cassette that is not passed stand on those that are
@@ -130,10 +115,10 @@ module _ {f : Frame} {tops goal done heights slots : List ℕ} (w : OnTheWay f t
   pub one-more : (b : ℕ) (done′ : List ℕ) → length done′ ≡ 16 → heightIn done b < heightIn tops b → heightIn done′ b ≡ suc (heightIn done b)
       → ((x : ℕ) → x ≢ b → heightIn done′ x ≡ heightIn done x) → Onto (wantedIn goal done b ∷ passedRows goal done b) (stack (storeOf f heights slots) b)
       → OnTheWay f tops goal done′ heights slots
-  unfolding downward
+  unfolding rowsDown
   one-more b done′ size h here there now =
-      let at-b : passedRows goal done′ b ≡ wantedIn goal done b ∷ passedRows goal done b = ap (rowsIn goal b) here in
-      let else : (x : ℕ) → x ≢ b → passedRows goal done′ x ≡ passedRows goal done x = λ x n. ap (rowsIn goal x) (there x n) in
+      let at-b : passedRows goal done′ b ≡ wantedIn goal done b ∷ passedRows goal done b = ap (rowsDown goal b) here in
+      let else : (x : ℕ) → x ≢ b → passedRows goal done′ x ≡ passedRows goal done x = λ x n. ap (rowsDown goal x) (there x n) in
       record {
         held = w .held;
         goal-shaped = w .goal-shaped;

@@ -10,14 +10,16 @@ use Rattle.store.specs.Sound.{Shaped}
 use Rattle.moves.specs.Went.{Went}
 use Rattle.placing.specs.declared.Frame.{Frame}
 use Rattle.placing.specs.declared.Spot.{Spot}
-use Rattle.placing.specs.Frames.{storeOf, depthIn, heightIn, Held}
-use Rattle.choices.specs.Choices.{rowsIn, wantedIn, Stands}
+use Rattle.lifts.specs.Lifting.{heightIn}
+use Rattle.placing.specs.Frames.{storeOf, depthIn, Held}
+use Rattle.store.specs.Slots.{rowsDown}
+use Rattle.choices.specs.Choices.{wantedIn, Stands}
 use Rattle.turns.specs.declared.Owed.{Owed}
 use Rattle.turns.specs.declared.Turned.{Turned}
 
 -- the rows of the goal that are passed
 abbrev pub passedRows : List ℕ → List ℕ → Stacks
-passedRows goal done x = rowsIn goal x (heightIn done x)
+passedRows goal done x = rowsDown goal x (heightIn done x)
 
 -- Rounds under way: `done` says how many rows of each shaft are passed, and the store and the goal agree on them.
 pub record OnTheWay (f : Frame) (tops goal done heights slots : List ℕ) : Type 0 where

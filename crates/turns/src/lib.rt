@@ -1,13 +1,15 @@
 // A slot made outside two shafts, where none is left: the top of a third shaft goes to the second of them.
-use moves::carry;
+use lifts::Heights;
+use lifts::Shaft;
+use lifts::Slots;
+use moves::Hints;
+use moves::put_lift;
 use placing::Frame;
 use placing::Spot;
 use placing::ahead::look_ahead;
-use store::Shaft;
-ghost use mathlib.Core.Path.{_≡_};
-ghost use Prim.Native.Nat.{ℕ, _+_, _≤_, _<_};
+ghost use Prim.Native.Nat.{_+_, _≤_, _<_};
 ghost use lib.ListN.{length};
-ghost use Rattle.placing.specs.Frames.{heightIn};
+ghost use Rattle.lifts.specs.Lifting.{heightIn};
 ghost use Rattle.turns.specs.Turning.{OtherIs, ThirdIs, LentIs, Ready, TurnedIs};
 
 // A shaft whose top row was passed and lent, and is to be filled again.
@@ -41,8 +43,8 @@ fn other(a: Shaft, b: Shaft) -> Shaft
     Shaft(0)
 }
 
-// A shaft other than a and b, one whose top is not passed if there is one.
-fn third(f: Frame, done: [u8; 16], heights: [u8; 16], a: Shaft, b: Shaft) -> Shaft
+// A shaft other than a and b. It looks for one whose top is not passed; no promise rests on that.
+fn third(f: Frame, done: Heights, heights: Heights, a: Shaft, b: Shaft) -> Shaft
     requires { ⌜ (3 ≤ f .m) × (f .m ≤ 16) ⌝ }
     ensures { λ r. ⌜ ThirdIs f (a .0) (b .0) (r .0) ⌝ }
 {
@@ -62,7 +64,7 @@ fn third(f: Frame, done: [u8; 16], heights: [u8; 16], a: Shaft, b: Shaft) -> Sha
 }
 
 // The top row of a shaft given up, if it is passed.
-fn lend(done: &mut [u8; 16], heights: [u8; 16], c: Shaft) -> Owed
+fn lend(done: &mut Heights, heights: Heights, c: Shaft) -> Owed
     requires { ⌜ (c .0 < 16) × (0 < heightIn heights (c .0)) ⌝ }
     requires { ⌜ heightIn (now done) (c .0) ≤ heightIn heights (c .0) ⌝ }
     ensures { λ r. ⌜ LentIs (now (done .entry)) heights (c .0) (now (done .exit)) r ⌝ }
@@ -78,12 +80,12 @@ fn lend(done: &mut [u8; 16], heights: [u8; 16], c: Shaft) -> Owed
 // A slot outside the two shafts, if anything is in the way and there is none.
 pub fn make_room(
     f: Frame,
-    tops: [u8; 16],
-    goal: &[u8; 256],
-    done: &mut [u8; 16],
-    heights: &mut [u8; 16],
-    slots: &mut [u8; 256],
-    hints: &mut [u8; 256],
+    tops: Heights,
+    goal: &Slots,
+    done: &mut Heights,
+    heights: &mut Heights,
+    slots: &mut Slots,
+    hints: &mut Hints,
     at: Spot,
     to: Spot,
     count: usize,
@@ -108,6 +110,6 @@ pub fn make_room(
     }
     let c = third(f, *done, *heights, at.shaft, to.shaft);
     let owed = lend(done, *heights, c);
-    let end = carry(heights, slots, hints, c, to.shaft, count, out);
+    let end = put_lift(heights, slots, hints, c, to.shaft, count, out);
     Turned { owed, count: end }
 }

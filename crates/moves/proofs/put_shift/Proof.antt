@@ -4,7 +4,7 @@ use mathlib.Core.Path.{_≡_, ap, _∙_}
 use Prim.Native.Nat.{ℕ}
 use native.Mathlib.Omega.{arith}
 use lib.ListN.{replicate}
-use Rattle.store.specs.Lists.{liftByte}
+use Rattle.lifts.specs.Bytes.{liftByte}
 use Rattle.moves.specs.Written.{written}
 use Rattle.moves.proofs.put_shift.Statement.{statement}
 use Rattle.moves.proofs.put_shift.Tie as tie

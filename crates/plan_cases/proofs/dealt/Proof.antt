@@ -1,7 +1,6 @@
 -- `dealt` is safe and ends: eight turns.
 use borrow.Author.Needs.{needs}
 use Prim.Native.Nat.{_≤_, _-_}
-use native.Mathlib.Omega.{arith}
 use Rattle.plan_cases.proofs.dealt.Statement.{statement}
 use Rattle.plan_cases.proofs.dealt.Tie as tie
 

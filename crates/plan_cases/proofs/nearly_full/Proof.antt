@@ -1,7 +1,6 @@
 -- `nearly_full` is safe and ends: 255 turns.
 use borrow.Author.Needs.{needs}
 use Prim.Native.Nat.{_≤_, _-_}
-use native.Mathlib.Omega.{arith}
 use Rattle.plan_cases.proofs.nearly_full.Statement.{statement}
 use Rattle.plan_cases.proofs.nearly_full.Tie as tie
 

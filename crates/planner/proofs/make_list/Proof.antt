@@ -7,7 +7,7 @@ use native.Mathlib.Omega.{arith}
 use lib.ListN.{length}
 use Rattle.store.specs.Slots.{cassetteCount, listSpace}
 use Rattle.reach.specs.Pairs.{Comparable}
-use Rattle.rules.proofs.Answers.{comparable-by, count-by, faulty-by}
+use Rattle.pairs.proofs.Answers.{comparable-by, count-by, faulty-by}
 use Rattle.planner.proofs.PlanAnswers.{counted-few, space-counted, refused-as, not-by-rule, listed-made}
 use Rattle.planner.proofs.make_list.Statement.{statement}
 use Rattle.planner.proofs.make_list.Tie as tie
@@ -23,10 +23,10 @@ counted : (c : tie.After-enum-told) → c .before .before .compare .result .n �
 counted c = count-by _ _ _ (c .before .before .compare .ensures) (c .enum-told .given .1)
 
 -- the number that the lent space is compared with is the list space
-space : (c : tie.After-list-space) → c .list-space .result ≡ listSpace (entry (c .before .before) .args .start)
-space c = space-counted _ _ _ _ (c .before .wide .ensures) (counted (c .before .before)) (c .list-space .ensures)
+space : (c : tie.After-list-space) → c .list-space .result ≡ listSpace (entry (c .before) .args .start)
+space c = space-counted _ _ _ (counted (c .before)) (c .list-space .ensures)
 
-enough : (c : tie.Else1) → listSpace (entry (c .before .before .before) .args .start) ≤ length (entry (c .before .before .before) .args .out .now)
+enough : (c : tie.Else1) → listSpace (entry (c .before .before) .args .start) ≤ length (entry (c .before .before) .args .out .now)
 enough c = omega (arith, space (c .before), c .if1 .left)
 
 compare-requires : tie.Need-compare-requires
@@ -52,12 +52,10 @@ returns c =
 enum-told : tie.Need-enum-told
 enum-told c = search needs
 
-wide-requires : tie.Need-wide-requires
-wide-requires c κs = search needs
-
 list-space-requires : tie.Need-list-space-requires
 list-space-requires c κs =
-    omega (arith, c .wide .ensures, counted (c .before), counted-few _ _ (both (c .before)))
+    let f = counted-few _ _ (both c) in
+    ((f .0, f .1), omega (arith, counted c, f .2))
 
 refused-requires-2 : tie.Need-refused-requires-2
 refused-requires-2 c κs = search needs
@@ -69,13 +67,13 @@ returns-2 : tie.Need-returns-2
 returns-2 c =
     let r = c .before .before in
     let w = r .before .before in
-    let d = w .before .before .before in
+    let d = w .before .before in
     let a = entry d .args in
     refused-as (a .start) (a .goal) (a .out .now) _ (r .refused2 .ensures) (both d, omega (arith, space (w .before), w .if1 .taken)) (λ u. u)
 
 rule-holds-requires : tie.Need-rule-holds-requires
 rule-holds-requires c κs =
-    let d = c .before .before .before in
+    let d = c .before .before in
     (both d, counted d)
 
 refused-requires-3 : tie.Need-refused-requires-3
@@ -89,7 +87,7 @@ returns-3 c =
     let r = c .before .before in
     let w = r .before .before in
     let e = w .before .before in
-    let d = e .before .before .before in
+    let d = e .before .before in
     let a = entry d .args in
     refused-as (a .start) (a .goal) (a .out .now) _ (r .refused3 .ensures)
     (not-by-rule (a .start) (a .goal) (a .out .now) (both d) (enough e) (w .before .rule-holds .ensures .not-so (not-true _ (w .if2 .taken)))) (λ u. u)
@@ -98,7 +96,7 @@ make-requires : tie.Need-make-requires
 make-requires c κs =
     let r = c .before in
     let e = r .before .before in
-    let d = e .before .before .before in
+    let d = e .before .before in
     (both d, (r .before .rule-holds .ensures .so (not-false _ (r .if2 .left)), (counted d, enough e)))
 
 listed-requires : tie.Need-listed-requires
@@ -111,7 +109,7 @@ returns-4 : tie.Need-returns-4
 returns-4 c =
     let m = c .before .before .before in
     let e = m .before .before .before .before in
-    listed-made _ _ _ (both (e .before .before .before)) (enough e) _ (c .listed .ensures) (m .make .ensures)
+    listed-made _ _ _ (both (e .before .before)) (enough e) _ (c .listed .ensures) (m .make .ensures)
 
 pub make-list-spec : {M : Type 1} → statement M
 make-list-spec =
@@ -123,7 +121,6 @@ make-list-spec =
     same-length
     returns
     enum-told
-    wide-requires
     list-space-requires
     refused-requires-2
     same-length-2

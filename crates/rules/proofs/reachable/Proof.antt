@@ -2,7 +2,8 @@
 use borrow.Author.Needs.{needs}
 use mathlib.Core.Path.{sym, subst}
 use Rattle.rules.specs.Promises.{ReachSays}
-use Rattle.rules.proofs.Answers.{comparable-by, count-by, faulty-by, said-by-rule}
+use Rattle.pairs.proofs.Answers.{comparable-by, count-by, faulty-by}
+use Rattle.rules.proofs.Answers.{said-by-rule}
 use Rattle.rules.proofs.reachable.Statement.{statement}
 use Rattle.rules.proofs.reachable.Tie as tie
 

@@ -1,100 +1,88 @@
--- `push` meets its contract: after i turns the first i of the field's bits are pushed.
-use mathlib.Core.List.{List, _∷_, [], _++_}
-use mathlib.Core.Path.{_≡_, ap, ap₂, _∙_}
-use Prim.Native.Nat.{ℕ, _+_, _-_, _/_, _^_, _≤_, _<_}
-use native.Mathlib.Nat.{div-one}
-use native.Mathlib.Numerals.{add-one}
+-- `push` meets its contract: by each of the two tests, a whole byte is stored or there is none.
+use mathlib.Core.Logic.{⊎-elim}
+use mathlib.Core.List.{List}
+use Prim.Native.Nat.{ℕ, _+_, _<_}
 use native.Mathlib.Omega.{arith}
-use lib.Pow.{shr-shr}
-use Rattle.bits.specs.declared.pen.Pen.{Pen}
-use Rattle.bits.specs.Fields.{bits, odd}
-use Rattle.bits.specs.Pens.{Pushes}
-use Rattle.bits.proofs.Widths.{length-bits}
-use Rattle.bits.proofs.Pushed.{pushes-none, pushes-then}
+use lib.ListN.{length}
+use borrow.Author.Needs.{needs}
+use Rattle.bits.proofs.Pushed.{Stores, stores-none, stores-byte, pushes-stored}
 use Rattle.bits.proofs.pen.push.Statement.{statement}
 use Rattle.bits.proofs.pen.push.Tie as tie
 
-abbrev Inv-loop : tie.InvT-loop
-Inv-loop out₀ v w q₀ i₀ out q i = (i ≤ w) × Pushes (bits i (v / 2 ^ (w - i))) out₀ out q₀ q
+append-requires : tie.Need-append-requires
+append-requires c κs = search needs
 
-abbrev μ-loop : tie.MeasureT-loop
-μ-loop out₀ v w q₀ i₀ out q i = w - i
+add-full : tie.Need-add-full
+add-full c = search needs
 
--- the first i + 1 bits are the first i and one more
-next-bit : (v w i : ℕ) → i < w → bits (i + 1) (v / 2 ^ (w - (i + 1))) ≡ bits i (v / 2 ^ (w - i)) ++ (odd (v / 2 ^ (w - 1 - i)) ∷ [])
-unfolding bits
-next-bit v w i h =
-    let e : w - (i + 1) + 1 ≡ w - i = omega arith in
-    let f : w - (i + 1) ≡ w - 1 - i = omega arith in
-    ap (λ (k : ℕ). bits k (v / 2 ^ (w - (i + 1)))) (add-one i)
-    ∙ (ap₂ (λ (x y : ℕ). bits i x ++ (odd y ∷ [])) (shr-shr v (w - (i + 1)) 1 ∙ ap (λ (k : ℕ). v / 2 ^ k) e) (ap (λ (k : ℕ). v / 2 ^ k) f))
+sub-full : tie.Need-sub-full
+sub-full c = search needs
 
-bits-none : (out : List ℕ) (p : Pen) (x : ℕ) → p .full < 8 → Pushes (bits 0 x) out out p p
-unfolding bits
-bits-none out p x h = pushes-none out p h
+byte-of-requires : tie.Need-byte-of-requires
+byte-of-requires c κs = search needs
 
-all-bits : (v w i : ℕ) {o o′ : List ℕ} {p q : Pen} → i ≡ w → Pushes (bits i (v / 2 ^ (w - i))) o o′ p q → Pushes (bits w v) o o′ p q
-all-bits v w i e h =
-    let z : w - i ≡ 0 = omega arith in
-    rw (z, div-one, e) at h
+slice-write-out : tie.Need-slice-write-out
+slice-write-out c = search needs
 
-loop-holds : tie.Need-loop-holds Inv-loop μ-loop
-loop-holds c = let a = c .before .args in (omega arith, bits-none (a .out .now) (a .p) (a .v / 2 ^ (a .w - 0)) (omega arith))
+add-at : tie.Need-add-at
+add-at c = search needs
 
-sub-push-bit : tie.Need-sub-push-bit Inv-loop μ-loop
-sub-push-bit c = omega arith
-
-sub-push-bit-2 : tie.Need-sub-push-bit-2 Inv-loop μ-loop
-sub-push-bit-2 c = omega arith
-
-cast-push-bit : tie.Need-cast-push-bit Inv-loop μ-loop
-cast-push-bit c = omega arith
-
-shr-push-bit : tie.Need-shr-push-bit Inv-loop μ-loop
-shr-push-bit c = omega arith
-
-push-bit-requires : tie.Need-push-bit-requires Inv-loop μ-loop
-push-bit-requires c κs =
-    let a = c .before .before .before .before .args in
-    let k = c .before .before .loop in
-    (k .inv .1 .full, omega (arith, k .inv .1 .count, k .inv .1 .same-length, length-bits (k .i) (a .v / 2 ^ (a .w - k .i))))
-
-add-i : tie.Need-add-i Inv-loop μ-loop
-add-i c = omega arith
-
-loop-less : tie.Need-loop-less Inv-loop μ-loop
-loop-less c = omega arith
-
-loop-again : tie.Need-loop-again Inv-loop μ-loop
-loop-again c =
-    let a = c .before .before .before .before .before .before .before .args in
-    let k = c .before .before .before .before .before .loop in
-    let h : k .i < a .w = omega arith in
-    (omega arith, rw (next-bit (a .v) (a .w) (k .i) h) (pushes-then (k .inv .1) (c .before .before .push-bit .ensures)))
-
-same-length : tie.Need-same-length Inv-loop μ-loop
-same-length c = c .before .loop .inv .1 .same-length
-
-returns : tie.Need-returns Inv-loop μ-loop
-returns c =
+-- what is stored so far, and fewer bits than n are left
+abbrev Stored : tie.After-struct-known → List ℕ → ℕ → ℕ → ℕ → Type 0
+Stored c out at full n =
     let a = c .before .before .before .args in
-    let k = c .before .loop in
-    all-bits (a .v) (a .w) (k .i) (omega arith) (k .inv .1)
+    let x = c .before .append .result in
+    (full < n) × Stores (a .out .now) out (record { at = a .p .at; part = x; full = a .p .full + a .w }) (record { at = at; part = x; full = full })
+
+one : (c : tie.Joined1) → Stored (c .before) (c .if1 .out) (c .if1 .at) (c .if1 .full) 16
+one c =
+    ⊎-elim (λ w. (omega arith, rw (w .2, w .3, w .4) (stores-byte _ _ _ _ _ (omega arith) (omega arith) (w .1 .ensures) (stores-none _ _))))
+    (λ w. (omega arith, rw (w .1, w .2, w .3) (stores-none _ _))) (c .if1 .came)
+
+-- a whole byte is left, and so is a place for it
+place : (c : tie.Then2) → c .before .if1 .at < length (c .before .if1 .out)
+place c = let k = one (c .before) .1 in omega (arith, k .count, k .same-length)
+
+two : (c : tie.Joined2) → Stored (c .before .before) (c .if2 .out) (c .if2 .at) (c .if2 .full) 8
+two c =
+    let k = one (c .before) in
+    ⊎-elim (λ w. (omega arith, rw (w .4, w .5, w .6) (stores-byte _ _ _ _ _ (w .0 .taken) (place (record { before = c .before; if2 = w .0 })) (w .2 .ensures) (k .1))))
+    (λ w. (omega arith, rw (w .1, w .2, w .3) (k .1))) (c .if2 .came)
+
+byte-of-requires-2 : tie.Need-byte-of-requires-2
+byte-of-requires-2 c κs = omega (arith, one (c .before .before) .0)
+
+slice-write-out-2 : tie.Need-slice-write-out-2
+slice-write-out-2 c = place (c .before .before)
+
+add-at-2 : tie.Need-add-at-2
+add-at-2 c = let k = one (c .before .before .before .before) .1 in omega (arith, k .count, k .same-length)
+
+byte-of-requires-3 : tie.Need-byte-of-requires-3
+byte-of-requires-3 c κs = search needs
+
+same-length : tie.Need-same-length
+same-length c = two (c .before) .1 .same-length
+
+returns : tie.Need-returns
+returns c =
+    let k = c .before .before .before .before in
+    let a = k .before .before .args in
+    pushes-stored (a .out .now) _ (a .p) (a .v) (a .w) _ _ _ _ (k .append .ensures) (c .byte-of3 .ensures) (two (c .before) .0) (two (c .before) .1)
 
 pub push-spec : {M : Type 1} → statement M
 push-spec =
     tie.close
     (tie.spec
-    Inv-loop
-    μ-loop
-    loop-holds
-    sub-push-bit
-    sub-push-bit-2
-    cast-push-bit
-    shr-push-bit
-    push-bit-requires
-    add-i
-    loop-less
-    loop-again
+    append-requires
+    add-full
+    sub-full
+    byte-of-requires
+    slice-write-out
+    add-at
+    byte-of-requires-2
+    slice-write-out-2
+    add-at-2
+    byte-of-requires-3
     same-length
     returns)

@@ -1,6 +1,6 @@
 -- `agreeing` meets its contract.
 use mathlib.Core.Logic.{⊎-elim}
-use Rattle.placing.specs.Frames.{heightIn}
+use Rattle.lifts.specs.Lifting.{heightIn}
 use Prim.Native.Nat.{_-_}
 use native.Mathlib.Omega.{arith}
 use Rattle.choices.proofs.AgreeLaws.{ComparedTo, LesserOf, lesser-first, lesser-second, none-compared, one-compared, all-compared}

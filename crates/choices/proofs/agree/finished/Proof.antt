@@ -2,8 +2,8 @@
 use borrow.Author.Count.{below-none, below-more}
 use Prim.Native.Nat.{ℕ, _-_, _≤_, _<_}
 use native.Mathlib.Omega.{arith}
-use Rattle.reach.proofs.Deciding.{holds, fails}
-use Rattle.placing.specs.Frames.{heightIn}
+use Rattle.stacks.proofs.Deciding.{holds, fails}
+use Rattle.lifts.specs.Lifting.{heightIn}
 use borrow.Author.Needs.{needs}
 use Rattle.choices.proofs.agree.finished.Statement.{statement}
 use Rattle.choices.proofs.agree.finished.Tie as tie

@@ -2,7 +2,7 @@
 use borrow.Author.Count.{below-none, below-more}
 use Prim.Native.Nat.{ℕ, _-_, _≤_, _<_}
 use native.Mathlib.Omega.{arith}
-use Rattle.placing.specs.Frames.{heightIn}
+use Rattle.lifts.specs.Lifting.{heightIn}
 use borrow.Author.Needs.{needs}
 use Rattle.choices.proofs.choose.first_left.Statement.{statement}
 use Rattle.choices.proofs.choose.first_left.Tie as tie

@@ -1,6 +1,6 @@
 -- `next` meets its contract.
-use mathlib.Core.Path.{sym}
-use Rattle.store.proofs.Rows.{slot-row}
+use mathlib.Core.Path.{refl}
+use Rattle.lifts.specs.Lifting.{shown}
 use borrow.Author.Needs.{needs}
 use Rattle.choices.proofs.choose.next.Statement.{statement}
 use Rattle.choices.proofs.choose.next.Tie as tie
@@ -24,7 +24,8 @@ element-copy-out-result : tie.Need-element-copy-out-result
 element-copy-out-result c = search needs
 
 returns : tie.Need-returns
-returns c = sym (slot-row _ _ _)
+unfolding shown
+returns c = refl
 
 pub next-spec : {M : Type 1} → statement M
 next-spec =

@@ -2,7 +2,7 @@
 use borrow.Author.Tests.{ltb-true, ltb-false, not-true, not-false}
 use mathlib.Core.Path.{sym, _∙_}
 use Prim.Native.Nat.{_<_}
-use Rattle.reach.proofs.Deciding.{fails}
+use Rattle.stacks.proofs.Deciding.{fails}
 use Rattle.choices.proofs.RoundLaws.{round-tested}
 use native.Mathlib.Omega.{arith}
 use borrow.Author.Needs.{needs}

@@ -3,8 +3,8 @@ use borrow.Author.Tests.{ltb-true, ltb-false, not-true, not-false}
 use mathlib.Core.Path.{sym, _∙_}
 use Prim.Native.Nat.{_<_}
 use native.Mathlib.Omega.{arith}
-use Rattle.reach.proofs.Deciding.{fails}
-use Rattle.choices.proofs.FindLaws.{shown}
+use Rattle.stacks.proofs.Deciding.{fails}
+use Rattle.choices.proofs.FindLaws.{slot-tested}
 use borrow.Author.Needs.{needs}
 use Rattle.choices.proofs.find.stands.Statement.{statement}
 use Rattle.choices.proofs.find.stands.Tie as tie
@@ -62,7 +62,7 @@ returns-4 : tie.Need-returns-4
 returns-4 c =
     let e = c .before .before .before .before .before .before in
     let a = e .before .before .before .args in
-    shown (a .f) (a .heights .now) (a .slots .now) (a .done .now) (a .v) (a .at .shaft .0) (a .at .row .0) (below e) (omega (arith, c .before .before .before .if2 .left)) (omega (arith, c .before .if3 .left))
+    slot-tested (a .f) (a .heights .now) (a .slots .now) (a .done .now) (a .v) (a .at .shaft .0) (a .at .row .0) (below e) (omega (arith, c .before .before .before .if2 .left)) (omega (arith, c .before .if3 .left))
 
 pub stands-spec : {M : Type 1} → statement M
 stands-spec =

@@ -23,7 +23,7 @@ sub-t12 : tie.Need-sub-t12
 sub-t12 c = search needs
 
 cast-t13 : tie.Need-cast-t13
-cast-t13 c = search needs
+cast-t13 c = let t = c .before .before .before .before .before .before in omega (arith, t .pre .0 .within (t .args .from .shaft .0), t .pre .0 .rows (t .args .from .shaft .0))
 
 element-copy-out-t16 : tie.Need-element-copy-out-t16
 element-copy-out-t16 c = search needs
@@ -35,7 +35,7 @@ sub-t18 : tie.Need-sub-t18
 sub-t18 c = search needs
 
 cast-t19 : tie.Need-cast-t19
-cast-t19 c = search needs
+cast-t19 c = let t = c .before .before .before .before .before .before .before .before in omega (arith, t .pre .0 .within (t .args .to .shaft .0), t .pre .0 .rows (t .args .to .shaft .0))
 
 add-t20 : tie.Need-add-t20
 add-t20 c = search needs

@@ -2,7 +2,7 @@
 use borrow.Author.Needs.{needs}
 use mathlib.Core.Path.{refl}
 use native.Mathlib.Omega.{arith}
-use Rattle.placing.specs.Frames.{heightIn}
+use Rattle.lifts.specs.Lifting.{heightIn}
 use Rattle.placing.proofs.Leaving.{Leaving, leaving-first, aside-ready, lift-off, entered-low, leaving-next, left-last}
 use Rattle.placing.proofs.leave.leave.Statement.{statement}
 use Rattle.placing.proofs.leave.leave.Tie as tie
@@ -26,14 +26,14 @@ element-copy-out-if1 c = let t = c .before .before .before .before in omega (ari
 aside-requires : tie.Need-aside-requires Inv-loop μ-loop
 aside-requires c κs = let t = c .before .before .before .before .before .before .before .before in aside-ready (t .pre .1 .0) (t .pre .1 .1) (c .before .before .before .before .loop .inv)
 
-carry-requires : tie.Need-carry-requires Inv-loop μ-loop
-carry-requires c κs = let t = c .before .before .before .before .before .before .before .before .before .before .before .before .before in lift-off (t .pre .1 .0) (t .pre .1 .1) (c .before .before .before .before .before .before .before .before .before .loop .inv) (c .before .before .before .before .aside .ensures)
+put-lift-requires : tie.Need-put-lift-requires Inv-loop μ-loop
+put-lift-requires c κs = let t = c .before .before .before .before .before .before .before .before .before .before .before .before .before in lift-off (t .pre .1 .0) (t .pre .1 .1) (c .before .before .before .before .before .before .before .before .before .loop .inv) (c .before .before .before .before .aside .ensures)
 
 loop-less : tie.Need-loop-less Inv-loop μ-loop
-loop-less c = let t = c .before .before .before .before .before .before .before .before .before .before .before .before .before .before .before .before in leaving-next (t .pre .1 .0) (t .pre .1 .1) (c .before .before .before .before .before .before .before .before .before .before .before .before .loop .inv) (c .before .before .before .before .before .before .before .aside .ensures) (c .before .before .carry .ensures) (c .before .before .before .before .before .before .before .before .before .if1 .taken) .1
+loop-less c = let t = c .before .before .before .before .before .before .before .before .before .before .before .before .before .before .before .before in leaving-next (t .pre .1 .0) (t .pre .1 .1) (c .before .before .before .before .before .before .before .before .before .before .before .before .loop .inv) (c .before .before .before .before .before .before .before .aside .ensures) (c .before .before .put-lift .ensures) (c .before .before .before .before .before .before .before .before .before .if1 .taken) .1
 
 loop-again : tie.Need-loop-again Inv-loop μ-loop
-loop-again c = let t = c .before .before .before .before .before .before .before .before .before .before .before .before .before .before .before .before in leaving-next (t .pre .1 .0) (t .pre .1 .1) (c .before .before .before .before .before .before .before .before .before .before .before .before .loop .inv) (c .before .before .before .before .before .before .before .aside .ensures) (c .before .before .carry .ensures) (c .before .before .before .before .before .before .before .before .before .if1 .taken) .0
+loop-again c = let t = c .before .before .before .before .before .before .before .before .before .before .before .before .before .before .before .before in leaving-next (t .pre .1 .0) (t .pre .1 .1) (c .before .before .before .before .before .before .before .before .before .before .before .before .loop .inv) (c .before .before .before .before .before .before .before .aside .ensures) (c .before .before .put-lift .ensures) (c .before .before .before .before .before .before .before .before .before .if1 .taken) .0
 
 aside-requires-2 : tie.Need-aside-requires-2 Inv-loop μ-loop
 aside-requires-2 c κs = let t = c .before .before .before .before .before .before .before .before in aside-ready (t .pre .1 .0) (t .pre .1 .1) (c .before .before .before .before .loop .inv)
@@ -44,8 +44,8 @@ cast-high c = search needs
 element-copy-out-high : tie.Need-element-copy-out-high Inv-loop μ-loop
 element-copy-out-high c = let t = c .before .before .before .before .before .before .before .before .before .before in entered-low (t .pre .1 .0) (t .pre .1 .1) (c .before .before .before .before .before .before .loop .inv) (c .before .aside2 .ensures) .0
 
-carry-requires-2 : tie.Need-carry-requires-2 Inv-loop μ-loop
-carry-requires-2 c κs = let t = c .before .before .before .before .before .before .before .before .before .before .before .before .before .before .before in lift-off (t .pre .1 .0) (t .pre .1 .1) (c .before .before .before .before .before .before .before .before .before .before .before .loop .inv) (c .before .before .before .before .before .before .aside2 .ensures)
+put-lift-requires-2 : tie.Need-put-lift-requires-2 Inv-loop μ-loop
+put-lift-requires-2 c κs = let t = c .before .before .before .before .before .before .before .before .before .before .before .before .before .before .before in lift-off (t .pre .1 .0) (t .pre .1 .1) (c .before .before .before .before .before .before .before .before .before .before .before .loop .inv) (c .before .before .before .before .before .before .aside2 .ensures)
 
 add-t30 : tie.Need-add-t30 Inv-loop μ-loop
 add-t30 c = let t = c .before .before .before .before .before .before .before .before .before .before .before .before .before .before .before .before .before .before in let e = entered-low (t .pre .1 .0) (t .pre .1 .1) (c .before .before .before .before .before .before .before .before .before .before .before .before .before .before .loop .inv) (c .before .before .before .before .before .before .before .before .before .aside2 .ensures) .1 in omega arith
@@ -54,7 +54,7 @@ same-length : tie.Need-same-length Inv-loop μ-loop
 same-length c = search needs
 
 returns : tie.Need-returns Inv-loop μ-loop
-returns c = let t = c .before .before .before .before .before .before .before .before .before .before .before .before .before .before .before .before .before .before in left-last (t .pre .1 .0) (t .pre .1 .1) (c .before .before .before .before .before .before .before .before .before .before .before .before .before .before .loop .inv) _ (c .before .before .before .before .before .before .before .before .before .aside2 .ensures) (c .before .before .carry2 .ensures) refl (c .before .before .before .before .before .before .before .before .before .before .before .if1 .left)
+returns c = let t = c .before .before .before .before .before .before .before .before .before .before .before .before .before .before .before .before .before .before in left-last (t .pre .1 .0) (t .pre .1 .1) (c .before .before .before .before .before .before .before .before .before .before .before .before .before .before .loop .inv) _ (c .before .before .before .before .before .before .before .before .before .aside2 .ensures) (c .before .before .put-lift2 .ensures) refl (c .before .before .before .before .before .before .before .before .before .before .before .if1 .left)
 
 pub leave-spec : {M : Type 1} → statement M
 leave-spec =
@@ -66,13 +66,13 @@ leave-spec =
     loop-holds
     element-copy-out-if1
     aside-requires
-    carry-requires
+    put-lift-requires
     loop-less
     loop-again
     aside-requires-2
     cast-high
     element-copy-out-high
-    carry-requires-2
+    put-lift-requires-2
     add-t30
     same-length
     returns)

@@ -33,30 +33,30 @@ cast-y c = search needs
 element-copy-out-high : tie.Need-element-copy-out-high Inv-loop μ-loop
 element-copy-out-high c = entered-room (c .before .before .before .before .before .loop .inv) (c .before .next-lift .ensures) .0
 
-carry-requires : tie.Need-carry-requires Inv-loop μ-loop
-carry-requires c κs = lift-ready (c .before .before .before .before .before .before .before .before .before .before .loop .inv) (c .before .before .before .before .before .before .next-lift .ensures) (c .before .before .before .before .before .before .before .before .before .before .before .before .before .before .pre .1 .1)
+put-lift-requires : tie.Need-put-lift-requires Inv-loop μ-loop
+put-lift-requires c κs = lift-ready (c .before .before .before .before .before .before .before .before .before .before .loop .inv) (c .before .before .before .before .before .before .next-lift .ensures) (c .before .before .before .before .before .before .before .before .before .before .before .before .before .before .pre .1 .1)
 
 follow-requires : tie.Need-follow-requires Inv-loop μ-loop
 follow-requires c κs = entered-room (c .before .before .before .before .before .before .before .before .before .before .before .before .before .loop .inv) (c .before .before .before .before .before .before .before .before .before .next-lift .ensures) .1
 
 look-ahead-requires-2 : tie.Need-look-ahead-requires-2 Inv-loop μ-loop
 look-ahead-requires-2 c κs =
-    see-next (c .before .before .before .before .before .before .before .before .before .before .before .before .before .before .before .before .loop .inv) (c .before .before .before .before .before .before .before .before .before .before .before .before .next-lift .ensures) (c .before .before .before .before .before .before .before .before .before .before .before .before .before .before .before .before .before .before .before .before .pre .1 .1) (c .before .before .before .before .before .carry .ensures) refl refl refl refl (c .before .before .follow .ensures)
+    see-next (c .before .before .before .before .before .before .before .before .before .before .before .before .before .before .before .before .loop .inv) (c .before .before .before .before .before .before .before .before .before .before .before .before .next-lift .ensures) (c .before .before .before .before .before .before .before .before .before .before .before .before .before .before .before .before .before .before .before .before .pre .1 .1) (c .before .before .before .before .before .put-lift .ensures) refl refl refl refl (c .before .before .follow .ensures)
 
 loop-less : tie.Need-loop-less Inv-loop μ-loop
-loop-less c = underway-next (c .before .before .before .before .before .before .before .before .before .before .before .before .before .before .before .before .before .loop .inv) (c .before .before .before .before .before .before .before .before .before .before .before .before .before .next-lift .ensures) (c .before .before .before .before .before .before .before .before .before .before .before .before .before .before .before .before .before .before .before .before .before .pre .1 .1) (c .before .before .before .before .before .before .carry .ensures) refl refl refl refl (c .before .before .before .follow .ensures) _ (c .look-ahead2 .ensures) .1
+loop-less c = underway-next (c .before .before .before .before .before .before .before .before .before .before .before .before .before .before .before .before .before .loop .inv) (c .before .before .before .before .before .before .before .before .before .before .before .before .before .next-lift .ensures) (c .before .before .before .before .before .before .before .before .before .before .before .before .before .before .before .before .before .before .before .before .before .pre .1 .1) (c .before .before .before .before .before .before .put-lift .ensures) refl refl refl refl (c .before .before .before .follow .ensures) _ (c .look-ahead2 .ensures) .1
 
 loop-again : tie.Need-loop-again Inv-loop μ-loop
-loop-again c = underway-next (c .before .before .before .before .before .before .before .before .before .before .before .before .before .before .before .before .before .loop .inv) (c .before .before .before .before .before .before .before .before .before .before .before .before .before .next-lift .ensures) (c .before .before .before .before .before .before .before .before .before .before .before .before .before .before .before .before .before .before .before .before .before .pre .1 .1) (c .before .before .before .before .before .before .carry .ensures) refl refl refl refl (c .before .before .before .follow .ensures) _ (c .look-ahead2 .ensures) .0
+loop-again c = underway-next (c .before .before .before .before .before .before .before .before .before .before .before .before .before .before .before .before .before .loop .inv) (c .before .before .before .before .before .before .before .before .before .before .before .before .before .next-lift .ensures) (c .before .before .before .before .before .before .before .before .before .before .before .before .before .before .before .before .before .before .before .before .before .pre .1 .1) (c .before .before .before .before .before .before .put-lift .ensures) refl refl refl refl (c .before .before .before .follow .ensures) _ (c .look-ahead2 .ensures) .0
 
-carry-requires-2 : tie.Need-carry-requires-2 Inv-loop μ-loop
-carry-requires-2 c κs = last-ready (c .before .before .before .before .before .before .loop .inv) (omega (arith, c .before .before .before .before .if1 .left)) (c .before .before .before .before .before .before .before .before .before .before .pre .1 .1)
+put-lift-requires-2 : tie.Need-put-lift-requires-2 Inv-loop μ-loop
+put-lift-requires-2 c κs = last-ready (c .before .before .before .before .before .before .loop .inv) (omega (arith, c .before .before .before .before .if1 .left)) (c .before .before .before .before .before .before .before .before .before .before .pre .1 .1)
 
 same-length : tie.Need-same-length Inv-loop μ-loop
 same-length c = search needs
 
 returns : tie.Need-returns Inv-loop μ-loop
-returns c = let t = c .before .before .before .before .before .before .before .before .before .before .before .before .before in placed-last (c .before .before .before .before .before .before .before .before .before .loop .inv) (omega (arith, c .before .before .before .before .before .before .before .if1 .left)) (t .pre .0) (t .pre .1 .0) (t .pre .1 .1) (c .before .before .carry2 .ensures)
+returns c = let t = c .before .before .before .before .before .before .before .before .before .before .before .before .before in placed-last (c .before .before .before .before .before .before .before .before .before .loop .inv) (omega (arith, c .before .before .before .before .before .before .before .if1 .left)) (t .pre .0) (t .pre .1 .0) (t .pre .1 .1) (c .before .before .put-lift2 .ensures)
 
 pub place-spec : {M : Type 1} → statement M
 place-spec =
@@ -70,11 +70,11 @@ place-spec =
     next-lift-requires
     cast-y
     element-copy-out-high
-    carry-requires
+    put-lift-requires
     follow-requires
     look-ahead-requires-2
     loop-less
     loop-again
-    carry-requires-2
+    put-lift-requires-2
     same-length
     returns)

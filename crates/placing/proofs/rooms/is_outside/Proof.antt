@@ -4,8 +4,9 @@ use native.Mathlib.Omega.{arith}
 use borrow.Author.Tests.{ltb-true, ltb-false, not-true, not-false}
 use Prim.Native.Nat.{_<_}
 use mathlib.Core.Path.{sym, _∙_}
-use Rattle.reach.proofs.Deciding.{fails}
-use Rattle.placing.specs.Frames.{depthIn, heightIn}
+use Rattle.stacks.proofs.Deciding.{fails}
+use Rattle.lifts.specs.Lifting.{heightIn}
+use Rattle.placing.specs.Frames.{depthIn}
 use Rattle.placing.proofs.RoomLaws.{room-tested}
 use Rattle.placing.proofs.rooms.is_outside.Statement.{statement}
 use Rattle.placing.proofs.rooms.is_outside.Tie as tie

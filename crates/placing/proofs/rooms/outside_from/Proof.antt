@@ -3,7 +3,8 @@ use borrow.Author.Needs.{needs}
 use native.Mathlib.Omega.{arith}
 use Prim.Native.Nat.{ℕ, _-_, _≤_, _<_}
 use Rattle.stacks.specs.Placing.{Outside}
-use Rattle.placing.specs.Frames.{depthIn, heightIn}
+use Rattle.lifts.specs.Lifting.{heightIn}
+use Rattle.placing.specs.Frames.{depthIn}
 use mathlib.Core.Path.{_≡_}
 use native.Mathlib.Decide.{decLt}
 use Rattle.placing.proofs.rooms.outside_from.Statement.{statement}

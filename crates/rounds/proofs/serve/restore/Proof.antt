@@ -1,11 +1,12 @@
 -- `restore` meets its contract.
 use borrow.Author.Needs.{needs}
-use Rattle.rounds.proofs.Playing.{seek-ready, restored-there, restore-place, restored}
+use native.Mathlib.Omega.{arith}
+use Rattle.rounds.proofs.Playing.{restore-row, seek-ready, restored-there, restore-place, restored}
 use Rattle.rounds.proofs.serve.restore.Statement.{statement}
 use Rattle.rounds.proofs.serve.restore.Tie as tie
 
 next-requires : tie.Need-next-requires
-next-requires c κs = search needs
+next-requires c κs = let t = c .before .before in restore-row (t .pre .0) (t .pre .1 .0)
 
 seek-requires : tie.Need-seek-requires
 seek-requires c κs = let t = c .before .before .before .before .before .before .before in seek-ready (t .pre .0) (t .pre .1 .0) _ (c .before .before .before .before .next .ensures)
@@ -17,7 +18,7 @@ element-copy-out-row : tie.Need-element-copy-out-row
 element-copy-out-row c = search needs
 
 add-row : tie.Need-add-row
-add-row c = search needs
+add-row c = let t = c .before .before .before .before .before .before .before .before .before .before in omega (arith, restore-row (t .pre .0) (t .pre .1 .0) .1)
 
 element-write-done : tie.Need-element-write-done
 element-write-done c = search needs

@@ -7,7 +7,7 @@ use Prim.Native.Nat.{ℕ, _-_, _≤_, _<_}
 use native.Mathlib.Omega.{arith}
 use lib.ListN.{getD}
 use Rattle.reach.specs.Rules.{twoShaftReading}
-use Rattle.reach.proofs.Deciding.{holds, fails}
+use Rattle.stacks.proofs.Deciding.{holds, fails}
 use Rattle.rules.proofs.Places.{same-readings}
 use Rattle.rules.proofs.rule.same_reading.Statement.{statement}
 use Rattle.rules.proofs.rule.same_reading.Tie as tie

@@ -1,47 +1,47 @@
--- `same_rows` meets its contract. The invariant: the rows passed agree.
-use borrow.Author.Count.{below-none, below-more}
+-- `same_rows` meets its contract. The invariant: the rows passed show the same.
+use borrow.Author.Count.{below-more}
 use borrow.Author.Needs.{needs}
-use mathlib.Core.Path.{_≡_}
-use Prim.Native.Nat.{ℕ, _+_, _-_, _*_, _≤_, _<_}
+use mathlib.Core.Path.{_≡_, sym, _∙_}
+use Prim.Native.Nat.{ℕ, suc, _-_, _≤_, _<_}
 use native.Mathlib.Omega.{arith}
-use lib.ListN.{getD}
-use Rattle.reach.proofs.Deciding.{holds, fails}
+use Rattle.stacks.proofs.Deciding.{holds, fails}
+use Rattle.lifts.specs.Lifting.{shown}
 use Rattle.rules.proofs.Places.{rows-so, rows-each}
 use Rattle.rules.proofs.rule.same_rows.Statement.{statement}
 use Rattle.rules.proofs.rule.same_rows.Tie as tie
 
 abbrev Inv-loop : tie.InvT-loop
-Inv-loop x k s t i₀ i = (i ≤ k) × ((j : ℕ) → j < i → getD (s .slots) (16 * x + j) 0 ≡ getD (t .slots) (16 * x + j) 0)
+Inv-loop a b x k i₀ i = (i ≤ k) × ((j : ℕ) → j < i → shown a x (suc j) ≡ shown b x (suc j))
 
 abbrev μ-loop : tie.MeasureT-loop
-μ-loop x k s t i₀ i = k - i
+μ-loop a b x k i₀ i = k - i
 
 loop-holds : tie.Need-loop-holds Inv-loop μ-loop
-loop-holds c = (search needs, below-none _)
+loop-holds c = (omega arith, λ j h. absurd (omega arith))
 
-mul-if1 : tie.Need-mul-if1 Inv-loop μ-loop
-mul-if1 c = search needs
+mul-slot-at : tie.Need-mul-slot-at Inv-loop μ-loop
+mul-slot-at c = search needs
 
-add-if1 : tie.Need-add-if1 Inv-loop μ-loop
-add-if1 c = search needs
+add-slot-at : tie.Need-add-slot-at Inv-loop μ-loop
+add-slot-at c = search needs
 
-element-copy-out-if1 : tie.Need-element-copy-out-if1 Inv-loop μ-loop
-element-copy-out-if1 c = search needs
+slot-at-requires : tie.Need-slot-at-requires Inv-loop μ-loop
+slot-at-requires c κs = search needs
 
-mul-if1-2 : tie.Need-mul-if1-2 Inv-loop μ-loop
-mul-if1-2 c = search needs
+mul-slot-at-2 : tie.Need-mul-slot-at-2 Inv-loop μ-loop
+mul-slot-at-2 c = search needs
 
-add-if1-2 : tie.Need-add-if1-2 Inv-loop μ-loop
-add-if1-2 c = search needs
+add-slot-at-2 : tie.Need-add-slot-at-2 Inv-loop μ-loop
+add-slot-at-2 c = search needs
 
-element-copy-out-if1-2 : tie.Need-element-copy-out-if1-2 Inv-loop μ-loop
-element-copy-out-if1-2 c = search needs
+slot-at-requires-2 : tie.Need-slot-at-requires-2 Inv-loop μ-loop
+slot-at-requires-2 c κs = search needs
 
 returns : tie.Need-returns Inv-loop μ-loop
+unfolding shown
 returns c =
     let a = c .before .before .before .before .before .args in
-    let i = c .before .before .before .before .loop .i in
-    fails λ e. c .if1 .taken (rows-each (a .t1) (a .t2) (a .x) (a .k) i e (omega arith))
+    fails λ e. c .if1 .taken (c .before .before .slot-at .ensures ∙ rows-each (a .a .now) (a .b .now) (a .x) (a .k) (c .before .before .before .before .loop .i) e (c .before .before .before .loop-test .taken) ∙ sym (c .before .slot-at2 .ensures))
 
 add-i : tie.Need-add-i Inv-loop μ-loop
 add-i c = search needs
@@ -50,12 +50,16 @@ loop-less : tie.Need-loop-less Inv-loop μ-loop
 loop-less c = search needs
 
 loop-again : tie.Need-loop-again Inv-loop μ-loop
-loop-again c = (search needs, below-more _ _ (c .before .before .before .before .loop .inv .1) (c .if1 .left))
+unfolding shown
+loop-again c =
+    let a = c .before .before .before .before .before .args in
+    let e = sym (c .before .before .slot-at .ensures) ∙ c .if1 .left ∙ c .before .slot-at2 .ensures in
+    (omega (arith, c .before .before .before .loop-test .taken), below-more _ _ (c .before .before .before .before .loop .inv .1) e)
 
 returns-2 : tie.Need-returns-2 Inv-loop μ-loop
 returns-2 c =
     let a = c .before .before .args in
-    holds (rows-so (a .t1) (a .t2) (a .x) (a .k) λ j h. c .before .loop .inv .1 j (omega arith))
+    holds (rows-so (a .a .now) (a .b .now) (a .x) (a .k) λ i h. c .before .loop .inv .1 i (omega (arith, c .loop-test .left)))
 
 pub same-rows-spec : {M : Type 1} → statement M
 same-rows-spec =
@@ -64,12 +68,12 @@ same-rows-spec =
     Inv-loop
     μ-loop
     loop-holds
-    mul-if1
-    add-if1
-    element-copy-out-if1
-    mul-if1-2
-    add-if1-2
-    element-copy-out-if1-2
+    mul-slot-at
+    add-slot-at
+    slot-at-requires
+    mul-slot-at-2
+    add-slot-at-2
+    slot-at-requires-2
     returns
     add-i
     loop-less

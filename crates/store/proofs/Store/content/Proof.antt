@@ -1,13 +1,13 @@
--- `content` meets its contract: 0 where the store has no such slot, else what the slot holds.
-use borrow.Author.Needs.{needs}
+-- `content` meets its contract: 0 where the store has no such slot, else what the slot shows.
 use borrow.Author.Tests.{not-true, not-false}
 use mathlib.Core.Bool.{true}
-use mathlib.Core.Path.{_≡_, sym, ap₂, _∙_}
-use Prim.Native.Nat.{ℕ, _+_, _-_, _*_, _≤_, _<_}
+use mathlib.Core.Path.{_≡_, sym, _∙_}
+use Prim.Native.Nat.{_≤_, _<_}
 use native.Mathlib.Omega.{arith}
-use lib.ListN.{getD}
+use Rattle.lifts.specs.Lifting.{mostShafts, mostRows}
 use Rattle.store.specs.Slots.{hasSlot}
 use Rattle.store.proofs.Lifting.{content-none, slot-range, content-at}
+use borrow.Author.Needs.{needs}
 use Rattle.store.proofs.Store.content.Statement.{statement}
 use Rattle.store.proofs.Store.content.Tie as tie
 
@@ -15,7 +15,7 @@ use Rattle.store.proofs.Store.content.Tie as tie
 there : (c : tie.Else1) → hasSlot (c .before .before .args .t1) (c .before .before .args .x .0) (c .before .before .args .y .0) ≡ true
 there c = sym (c .before .has-slot .ensures) ∙ not-false _ (c .if1 .left)
 
-range : (c : tie.Else1) → (c .before .before .args .x .0 < 16) × ((0 < c .before .before .args .y .0) × (c .before .before .args .y .0 ≤ 16))
+range : (c : tie.Else1) → (c .before .before .args .x .0 < mostShafts) × ((0 < c .before .before .args .y .0) × (c .before .before .args .y .0 ≤ mostRows))
 range c = slot-range (c .before .before .args .t1) (c .before .before .args .x .0) (c .before .before .args .y .0) (there c)
 
 has-slot-requires : tie.Need-has-slot-requires
@@ -26,11 +26,11 @@ returns c =
     let a = c .before .before .args in
     content-none (a .t1) (a .x .0) (a .y .0) (sym (c .before .has-slot .ensures) ∙ not-true _ (c .if1 .taken))
 
-wide-requires : tie.Need-wide-requires
-wide-requires c κs = search needs
+cast-i : tie.Need-cast-i
+cast-i c = search needs
 
-wide-requires-2 : tie.Need-wide-requires-2
-wide-requires-2 c κs = search needs
+cast-row : tie.Need-cast-row
+cast-row c = search needs
 
 mul-result : tie.Need-mul-result
 mul-result c = search needs
@@ -39,7 +39,7 @@ sub-result : tie.Need-sub-result
 sub-result c = omega (arith, range (c .before .before))
 
 add-result : tie.Need-add-result
-add-result c = omega (arith, range (c .before .before))
+add-result c = search needs
 
 element-copy-out-result : tie.Need-element-copy-out-result
 element-copy-out-result c = omega (arith, range (c .before .before))
@@ -47,8 +47,7 @@ element-copy-out-result c = omega (arith, range (c .before .before))
 returns-2 : tie.Need-returns-2
 returns-2 c =
     let a = c .before .before .before .before .before .args in
-    ap₂ (λ (i j : ℕ). getD (a .t1 .slots) (16 * i + (j - 1)) 0) (c .before .before .wide .ensures) (c .before .wide2 .ensures)
-    ∙ content-at (a .t1) (a .x .0) (a .y .0) (there (c .before .before .before))
+    content-at (a .t1) (a .x .0) (a .y .0) (there (c .before .before .before))
 
 pub content-spec : {M : Type 1} → statement M
 content-spec =
@@ -56,8 +55,8 @@ content-spec =
     (tie.spec
     has-slot-requires
     returns
-    wide-requires
-    wide-requires-2
+    cast-i
+    cast-row
     mul-result
     sub-result
     add-result

@@ -2,6 +2,7 @@
 use mathlib.Core.Path.{sym}
 use native.Mathlib.Omega.{arith}
 use Rattle.store.proofs.Lifting.{slot-past, slot-beyond, slot-none, slot-above, slot-there}
+use borrow.Author.Needs.{needs}
 use Rattle.store.proofs.Store.has_slot.Statement.{statement}
 use Rattle.store.proofs.Store.has_slot.Tie as tie
 
@@ -20,15 +21,23 @@ returns-3 c =
     let a = c .before .before .before .before .before .before .before .args in
     sym (slot-none (a .self) (a .x .0) (a .y .0) (omega arith) (omega arith) (omega arith))
 
+cast-depth-of : tie.Need-cast-depth-of
+cast-depth-of c = search needs
+
+depth-of-requires : tie.Need-depth-of-requires
+depth-of-requires c κs = search needs
+
 returns-4 : tie.Need-returns-4
 returns-4 c =
-    let a = c .before .before .before .before .before .before .before .before .before .before .args in
-    sym (slot-above (a .self) (a .x .0) (a .y .0) (omega arith) (omega arith) (omega arith) (omega arith))
+    let a = c .before .before .before .before .before .before .before .before .before .before .before .args in
+    sym (slot-above (a .self) (a .x .0) (a .y .0) (omega arith) (omega arith) (omega arith) (omega (arith, c .if4 .taken, c .before .before .depth-of .ensures)))
 
 returns-5 : tie.Need-returns-5
 returns-5 c =
-    let a = c .before .before .before .before .before .before .before .before .before .before .before .args in
-    sym (slot-there (a .self) (a .x .0) (a .y .0) (omega arith) (omega arith) (omega arith) (omega arith))
+    let a = c .before .before .before .before .before .before .before .before .before .before .before .before .args in
+    sym (slot-there (a .self) (a .x .0) (a .y .0) (omega arith) (omega arith) (omega arith) (omega (arith, c .before .if4 .left, c .before .before .before .depth-of .ensures)))
 
 pub has-slot-spec : {M : Type 1} → statement M
-has-slot-spec = tie.close (tie.spec returns returns-2 returns-3 returns-4 returns-5)
+has-slot-spec =
+    tie.close
+    (tie.spec returns returns-2 returns-3 cast-depth-of depth-of-requires returns-4 returns-5)

@@ -1,25 +1,25 @@
 -- `height` meets its contract: past the sixteenth shaft a list of sixteen heights has the default, 0.
 use borrow.Author.Needs.{needs}
-use mathlib.Core.Path.{_≡_, sym, ap}
-use Prim.Native.Nat.{ℕ}
+use mathlib.Core.Path.{_≡_, sym}
 use native.Mathlib.Omega.{arith}
-use lib.ListN.{length, getD, List·getD-eq-default}
+use lib.ListN.{length, List·getD-eq-default}
+use Rattle.lifts.specs.Lifting.{mostShafts}
 use Rattle.store.proofs.Store.height.Statement.{statement}
 use Rattle.store.proofs.Store.height.Tie as tie
 
-wide-requires : tie.Need-wide-requires
-wide-requires c κs = search needs
+cast-i : tie.Need-cast-i
+cast-i c = search needs
 
 element-copy-out-result : tie.Need-element-copy-out-result
 element-copy-out-result c = search needs
 
 returns : tie.Need-returns
-returns c = ap (λ (i : ℕ). getD (c .before .before .before .args .t1 .heights) i 0) (c .before .before .wide .ensures)
+returns c = search needs
 
 returns-2 : tie.Need-returns-2
 returns-2 c =
-    let e : length (c .before .before .args .t1 .heights) ≡ 16 = search needs in
+    let e : length (c .before .before .args .t1 .heights) ≡ mostShafts = search needs in
     sym (List·getD-eq-default (c .before .before .args .t1 .heights) 0 (omega arith))
 
 pub height-spec : {M : Type 1} → statement M
-height-spec = tie.close (tie.spec wide-requires element-copy-out-result returns returns-2)
+height-spec = tie.close (tie.spec cast-i element-copy-out-result returns returns-2)

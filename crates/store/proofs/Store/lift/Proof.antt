@@ -1,7 +1,7 @@
 -- `lift` meets its contract: the store's own fault, then the lift's, then the lift.
 use borrow.Author.Needs.{needs}
 use mathlib.Core.Path.{sym, ap, _∙_}
-use Rattle.store.specs.Numbers.{judgedNumber}
+use Rattle.lifts.specs.Numbers.{judgedNumber}
 use Rattle.store.proofs.Acceptance.{accepted-shaped}
 use Rattle.store.proofs.Checks.{accepted-none, refused-one}
 use Rattle.store.proofs.Lifting.{store-refused, lift-refused, lift-done}
@@ -23,8 +23,8 @@ returns c =
 enum-told : tie.Need-enum-told
 enum-told c = search needs
 
-judge-requires : tie.Need-judge-requires
-judge-requires c κs = search needs
+judge-in-requires : tie.Need-judge-in-requires
+judge-in-requires c κs = search needs
 
 enum-known-r : tie.Need-enum-known-r
 enum-known-r c = search needs
@@ -32,16 +32,16 @@ enum-known-r c = search needs
 returns-2 : tie.Need-returns-2
 returns-2 c =
     let g = c .before .r .given in
-    lift-refused (c .before .before .before .before .before .before .before .args .self) (c .before .before .before .before .before .before .before .args .from .0) (c .before .before .before .before .before .before .before .args .to .0) (g .0 .0) (accepted-none _ _ _ (c .before .before .before .before .before .before .check .ensures) (c .before .before .before .before .enum-told .given .1) .0) (sym (ap judgedNumber (g .1)) ∙ c .before .before .before .judge .ensures .has)
+    lift-refused (c .before .before .before .before .before .before .before .args .self) (c .before .before .before .before .before .before .before .args .from .0) (c .before .before .before .before .before .before .before .args .to .0) (g .0 .0) (accepted-none _ _ _ (c .before .before .before .before .before .before .check .ensures) (c .before .before .before .before .enum-told .given .1) .0) (sym (ap judgedNumber (g .1)) ∙ c .before .before .before .judge-in .ensures .has)
 
 enum-told-2 : tie.Need-enum-told-2
 enum-told-2 c = search needs
 
-move-top-requires : tie.Need-move-top-requires
-move-top-requires c κs = (accepted-shaped (c .before .before .before .before .before .before .args .self) (accepted-none _ _ _ (c .before .before .before .before .before .check .ensures) (c .before .before .before .enum-told .given .1) .0), none-allowed (c .before .before .before .before .before .before .args .self) (c .before .before .before .before .before .before .args .from .0) (c .before .before .before .before .before .before .args .to .0) (sym (c .before .before .judge .ensures .has) ∙ ap judgedNumber (c .enum-told2 .given .1)))
+carried-in-requires : tie.Need-carried-in-requires
+carried-in-requires c κs = (accepted-shaped (c .before .before .before .before .before .before .args .self) (accepted-none _ _ _ (c .before .before .before .before .before .check .ensures) (c .before .before .before .enum-told .given .1) .0), none-allowed (c .before .before .before .before .before .before .args .self) (c .before .before .before .before .before .before .args .from .0) (c .before .before .before .before .before .before .args .to .0) (sym (c .before .before .judge-in .ensures .has) ∙ ap judgedNumber (c .enum-told2 .given .1)))
 
 returns-3 : tie.Need-returns-3
-returns-3 c = lift-done (c .before .before .before .before .before .before .before .args .self) (c .before .before .before .before .before .before .before .args .from .0) (c .before .before .before .before .before .before .before .args .to .0) _ (accepted-none _ _ _ (c .before .before .before .before .before .before .check .ensures) (c .before .before .before .before .enum-told .given .1) .0) (sym (c .before .before .before .judge .ensures .has) ∙ ap judgedNumber (c .before .enum-told2 .given .1)) (c .move-top .ensures)
+returns-3 c = lift-done (c .before .before .before .before .before .before .before .args .self) (c .before .before .before .before .before .before .before .args .from .0) (c .before .before .before .before .before .before .before .args .to .0) _ (accepted-none _ _ _ (c .before .before .before .before .before .before .check .ensures) (c .before .before .before .before .enum-told .given .1) .0) (sym (c .before .before .before .judge-in .ensures .has) ∙ ap judgedNumber (c .before .enum-told2 .given .1)) (c .carried-in .ensures)
 
 pub lift-spec : {M : Type 1} → statement M
 lift-spec =
@@ -51,9 +51,9 @@ lift-spec =
     enum-known-verdict
     returns
     enum-told
-    judge-requires
+    judge-in-requires
     enum-known-r
     returns-2
     enum-told-2
-    move-top-requires
+    carried-in-requires
     returns-3)

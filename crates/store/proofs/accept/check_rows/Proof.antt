@@ -1,74 +1,60 @@
--- `check_rows` meets its contract. The invariant: the rows passed have no fault, and they and all before them are marked.
+-- `check_rows` meets its contract. The invariant: the rows passed were taken without a fault.
 use borrow.Author.Needs.{needs}
-use mathlib.Core.List.{List, append-nil}
-use mathlib.Core.Path.{_≡_, refl, sym, ap, _∙_}
-use mir.Syntax.{w8}
-use mir.Val.{Fits}
-use Prim.Native.Nat.{ℕ, suc, _+_, _*_, _≤_, _-_}
+use mathlib.Core.Path.{_≡_, ap, subst, subst₂}
+use Prim.Native.Nat.{ℕ, _-_, _≤_}
 use native.Mathlib.Numerals.{add-one}
 use native.Mathlib.Omega.{arith}
-use lib.ListN.{getD}
-use Rattle.store.specs.declared.Fault.the-variants.{NumberZero, Twice}
-use Rattle.store.specs.Slots.{height, slot, upward, cassettesBelow}
-use Rattle.store.specs.Accept.{rowsFault}
-use Rattle.store.specs.Marking.{noMarks, withMark, withMarks}
-use Rattle.store.proofs.Checks.{refused-is, accepted-is, mark-found, mark-missing}
-use Rattle.store.proofs.MarkLaws.{with-more}
-use Rattle.store.proofs.Walk.{before, row-after, zero-refused, twice-refused, cassette-taken, row-met, row-passed}
+use Rattle.marks.specs.declared.Taken.{Taken}
+use Rattle.marks.specs.Taking.{takenNumber, TakenIs}
+use Rattle.lifts.specs.Lifting.{shown}
+use Rattle.store.specs.declared.Fault.{Fault}
+use Rattle.store.proofs.Walked.{RowsSoFar, no-rows, row-taken, row-refused, rows-taken}
 use Rattle.store.proofs.accept.check_rows.Statement.{statement}
 use Rattle.store.proofs.accept.check_rows.Tie as tie
 
 abbrev Inv-loop : tie.InvT-loop
-Inv-loop x s rows marks₀ k₀ marks k = (rows ≡ height s x) × (k ≤ rows) × (rowsFault s x k ≡ 0) × (marks .words ≡ withMarks noMarks (before s x k))
+Inv-loop slots x rows marks₀ k₀ marks k = (k ≤ rows) × RowsSoFar marks₀ slots x k marks
 
 abbrev μ-loop : tie.MeasureT-loop
-μ-loop x s rows marks₀ k₀ marks k = rows - k
-
-element-copy-out-wide : tie.Need-element-copy-out-wide Inv-loop μ-loop
-element-copy-out-wide c = search needs
-
-wide-requires : tie.Need-wide-requires Inv-loop μ-loop
-wide-requires c κs = search needs
+μ-loop slots x rows marks₀ k₀ marks k = rows - k
 
 loop-holds : tie.Need-loop-holds Inv-loop μ-loop
-unfolding rowsFault upward
-loop-holds c = (c .wide .ensures, search needs, refl, c .before .before .pre .1 ∙ ap (withMarks noMarks) (sym (append-nil _)))
+loop-holds c = (omega arith, no-rows _ _ _)
 
-mul-c : tie.Need-mul-c Inv-loop μ-loop
-mul-c c = search needs
+mul-slot-at : tie.Need-mul-slot-at Inv-loop μ-loop
+mul-slot-at c = search needs
 
-add-c : tie.Need-add-c Inv-loop μ-loop
-add-c c = search needs
+add-slot-at : tie.Need-add-slot-at Inv-loop μ-loop
+add-slot-at c = search needs
 
-element-copy-out-c : tie.Need-element-copy-out-c Inv-loop μ-loop
-element-copy-out-c c = search needs
+slot-at-requires : tie.Need-slot-at-requires Inv-loop μ-loop
+slot-at-requires c κs = search needs
 
-refused-requires : tie.Need-refused-requires Inv-loop μ-loop
-refused-requires c κs = search needs
+take-requires : tie.Need-take-requires Inv-loop μ-loop
+take-requires c κs = search needs
+
+enum-told : tie.Need-enum-told Inv-loop μ-loop
+enum-told c = search needs
+
+enum-told-2 : tie.Need-enum-told-2 Inv-loop μ-loop
+enum-told-2 c = search needs
 
 returns : tie.Need-returns Inv-loop μ-loop
-unfolding slot
+unfolding shown
 returns c =
-    refused-is NumberZero _ _ _ (c .refused .ensures)
-    (row-met (c .before .before .before .before .before .before .before .args .t1) (c .before .before .before .before .before .before .before .args .x) (c .before .before .before .before .loop .k) _ 4 (c .before .before .before .before .loop .inv .2) (zero-refused (before (c .before .before .before .before .before .before .before .args .t1) (c .before .before .before .before .before .before .before .args .x) (c .before .before .before .before .loop .k)) (slot (c .before .before .before .before .before .before .before .args .t1) (c .before .before .before .before .before .before .before .args .x) (suc (c .before .before .before .before .loop .k))) (c .before .if1 .taken)) (omega arith) (omega arith))
+    row-refused (c .before .before .before .before .before .before .loop .inv .1) Fault.NumberZero _ (c .before .before .before .before .before .before .before .args .rows)
+    (subst (λ (v : ℕ). TakenIs (c .before .before .before .before .before .before .loop .marks) v (c .before .before .take .last .0) (c .before .before .take .result)) (c .before .before .before .slot-at .ensures) (c .before .before .take .ensures))
+    (ap takenNumber (c .enum-told2 .given .1)) (c .before .before .before .before .before .loop-test .taken)
 
-has-requires : tie.Need-has-requires Inv-loop μ-loop
-has-requires c κs = search needs
-
-refused-requires-2 : tie.Need-refused-requires-2 Inv-loop μ-loop
-refused-requires-2 c κs = search needs
+enum-told-3 : tie.Need-enum-told-3 Inv-loop μ-loop
+enum-told-3 c = search needs
 
 returns-2 : tie.Need-returns-2 Inv-loop μ-loop
-unfolding slot
+unfolding shown
 returns-2 c =
-    let b : Fits w8 (getD (c .before .before .before .before .before .before .before .before .before .args .t1 .slots) (16 * c .before .before .before .before .before .before .before .before .before .args .x + c .before .before .before .before .before .before .loop .k) 0) = search needs in
-    let l = before (c .before .before .before .before .before .before .before .before .before .args .t1) (c .before .before .before .before .before .before .before .before .before .args .x) (c .before .before .before .before .before .before .loop .k) in
-    refused-is Twice _ _ _ (c .refused2 .ensures)
-    (row-met (c .before .before .before .before .before .before .before .before .before .args .t1) (c .before .before .before .before .before .before .before .before .before .args .x) (c .before .before .before .before .before .before .loop .k) _ 5 (c .before .before .before .before .before .before .loop .inv .2)
-    (twice-refused l (slot (c .before .before .before .before .before .before .before .before .before .args .t1) (c .before .before .before .before .before .before .before .before .before .args .x) (suc (c .before .before .before .before .before .before .loop .k))) (c .before .before .before .if1 .left) (mark-found (c .before .before .before .before .before .before .loop .marks .words) l _ (c .before .before .before .before .before .before .loop .inv .3) (b .fits) (sym (c .before .before .has .ensures) ∙ c .before .if2 .taken))) (omega arith) (omega arith))
-
-with-requires : tie.Need-with-requires Inv-loop μ-loop
-with-requires c κs = search needs
+    row-refused (c .before .before .before .before .before .before .loop .inv .1) Fault.Twice _ (c .before .before .before .before .before .before .before .args .rows)
+    (subst (λ (v : ℕ). TakenIs (c .before .before .before .before .before .before .loop .marks) v (c .before .before .take .last .0) (c .before .before .take .result)) (c .before .before .before .slot-at .ensures) (c .before .before .take .ensures))
+    (ap takenNumber (c .enum-told3 .given .1)) (c .before .before .before .before .before .loop-test .taken)
 
 add-k : tie.Need-add-k Inv-loop μ-loop
 add-k c = search needs
@@ -77,24 +63,18 @@ loop-less : tie.Need-loop-less Inv-loop μ-loop
 loop-less c = search needs
 
 loop-again : tie.Need-loop-again Inv-loop μ-loop
-unfolding slot
-loop-again c =
-    let b : Fits w8 (getD (c .before .before .before .before .before .before .before .before .before .args .t1 .slots) (16 * c .before .before .before .before .before .before .before .before .before .args .x + c .before .before .before .before .before .before .loop .k) 0) = search needs in
-    let k = c .before .before .before .before .before .before .loop .k in
-    let l = before (c .before .before .before .before .before .before .before .before .before .args .t1) (c .before .before .before .before .before .before .before .before .before .args .x) k in
-    let n = mark-missing (c .before .before .before .before .before .before .loop .marks .words) l _ (c .before .before .before .before .before .before .loop .inv .3) (b .fits) (sym (c .before .before .has .ensures) ∙ c .before .if2 .left) in (
-      omega arith,
-      omega arith,
-      rw add-one (row-passed (c .before .before .before .before .before .before .before .before .before .args .t1) (c .before .before .before .before .before .before .before .before .before .args .x) k (c .before .before .before .before .before .before .loop .inv .2) (cassette-taken l (slot (c .before .before .before .before .before .before .before .before .before .args .t1) (c .before .before .before .before .before .before .before .before .before .args .x) (suc (c .before .before .before .before .before .before .loop .k))) (c .before .before .before .if1 .left) n)),
-      rw add-one (c .with .ensures ∙ ap (λ (w : List ℕ). withMark w (slot (c .before .before .before .before .before .before .before .before .before .args .t1) (c .before .before .before .before .before .before .before .before .before .args .x) (suc (c .before .before .before .before .before .before .loop .k)))) (c .before .before .before .before .before .before .loop .inv .3) ∙ sym (with-more noMarks l (slot (c .before .before .before .before .before .before .before .before .before .args .t1) (c .before .before .before .before .before .before .before .before .before .args .x) (suc (c .before .before .before .before .before .before .loop .k)))) ∙ ap (withMarks noMarks) (row-after (c .before .before .before .before .before .before .before .before .before .args .t1) (c .before .before .before .before .before .before .before .before .before .args .x) k)),
-    )
+unfolding shown
+loop-again c = (
+  omega (arith, c .before .before .before .before .before .loop-test .taken),
+  rw add-one
+      (row-taken (c .before .before .before .before .before .before .loop .inv .1)
+      (subst₂ (λ (v : ℕ) (r : Taken). TakenIs (c .before .before .before .before .before .before .loop .marks) v (c .before .before .take .last .0) r) (c .before .before .before .slot-at .ensures) (c .enum-told .given .1) (c .before .before .take .ensures))),
+)
 
 returns-3 : tie.Need-returns-3 Inv-loop μ-loop
-unfolding cassettesBelow
 returns-3 c =
-    let k : c .before .loop .k ≡ height (c .before .before .before .before .args .t1) (c .before .before .before .before .args .x) = omega arith in
-    accepted-is _ _ (c .before .loop .marks) (ap (rowsFault (c .before .before .before .before .args .t1) (c .before .before .before .before .args .x)) (sym k) ∙ c .before .loop .inv .2)
-    (c .before .loop .inv .3 ∙ ap (λ (n : ℕ). withMarks noMarks (before (c .before .before .before .before .args .t1) (c .before .before .before .before .args .x) n)) k)
+    let k : c .before .loop .k ≡ c .before .before .args .rows = omega (arith, c .loop-test .left, c .before .loop .inv .0) in
+    rows-taken (subst (λ (n : ℕ). RowsSoFar (c .before .before .args .marks .now) (c .before .before .args .slots .now) (c .before .before .args .x) n (c .before .loop .marks)) k (c .before .loop .inv .1))
 
 pub check-rows-spec : {M : Type 1} → statement M
 check-rows-spec =
@@ -102,18 +82,16 @@ check-rows-spec =
     (tie.spec
     Inv-loop
     μ-loop
-    element-copy-out-wide
-    wide-requires
     loop-holds
-    mul-c
-    add-c
-    element-copy-out-c
-    refused-requires
+    mul-slot-at
+    add-slot-at
+    slot-at-requires
+    take-requires
+    enum-told
+    enum-told-2
     returns
-    has-requires
-    refused-requires-2
+    enum-told-3
     returns-2
-    with-requires
     add-k
     loop-less
     loop-again

@@ -1,58 +1,50 @@
--- `check_shafts` meets its contract. The invariant: the shafts passed have no fault, and their cassettes are marked.
+-- `check_shafts` meets its contract. The invariant: the shafts passed were taken without a fault.
 use borrow.Author.Needs.{needs}
-use mathlib.Core.Path.{_≡_, refl, sym, ap, _∙_}
-use Prim.Native.Nat.{ℕ, _≤_, _-_}
+use mathlib.Core.Path.{_≡_, refl, subst}
+use Prim.Native.Nat.{ℕ, _-_, _≤_}
 use native.Mathlib.Numerals.{add-one}
 use native.Mathlib.Omega.{arith}
-use Rattle.store.specs.declared.Fault.the-variants.{TooHigh}
-use Rattle.store.specs.Slots.{cassettesBelow, cassettes}
-use Rattle.store.specs.Accept.{shaftsFault}
-use Rattle.store.specs.Marking.{noMarks, withMarks}
-use Rattle.store.proofs.Checks.{refused-is, accepted-is, accepted-none, refused-one, fault-one}
-use Rattle.store.proofs.Walk.{shaft-met, shaft-passed, too-high, by-rows}
+use Rattle.store.specs.Slots.{held}
+use Rattle.store.specs.Checking.{RowsAre}
+use Rattle.store.proofs.Walked.{ShaftsSoFar, no-shafts, shaft-high, shaft-refused, shaft-taken, shafts-taken}
 use Rattle.store.proofs.accept.check_shafts.Statement.{statement}
 use Rattle.store.proofs.accept.check_shafts.Tie as tie
 
 abbrev Inv-loop : tie.InvT-loop
-Inv-loop s shafts marks₀ x₀ marks x = (shafts ≡ s .m) × (x ≤ shafts) × (shaftsFault s x ≡ 0) × (marks .words ≡ withMarks noMarks (cassettesBelow s x))
+Inv-loop m h heights slots marks₀ shafts x₀ marks x = (shafts ≡ m) × (x ≤ shafts) × ShaftsSoFar (held m h heights slots) x marks
 
 abbrev μ-loop : tie.MeasureT-loop
-μ-loop s shafts marks₀ x₀ marks x = shafts - x
-
-wide-requires : tie.Need-wide-requires Inv-loop μ-loop
-wide-requires c κs = search needs
-
-none-requires : tie.Need-none-requires Inv-loop μ-loop
-none-requires c κs = search needs
+μ-loop m h heights slots marks₀ shafts x₀ marks x = shafts - x
 
 loop-holds : tie.Need-loop-holds Inv-loop μ-loop
-unfolding shaftsFault cassettesBelow withMarks
-loop-holds c = (c .before .wide .ensures, search needs, refl, c .none .ensures)
+loop-holds c = (refl, omega arith, no-shafts _ (c .pre .1))
 
-element-copy-out-if1 : tie.Need-element-copy-out-if1 Inv-loop μ-loop
-element-copy-out-if1 c = search needs
+height-at-requires : tie.Need-height-at-requires Inv-loop μ-loop
+height-at-requires c κs = search needs
 
-refused-requires : tie.Need-refused-requires Inv-loop μ-loop
-refused-requires c κs = search needs
+depth-of-requires : tie.Need-depth-of-requires Inv-loop μ-loop
+depth-of-requires c κs = search needs
 
 returns : tie.Need-returns Inv-loop μ-loop
-returns c = refused-is TooHigh _ _ _ (c .refused .ensures) (shaft-met (c .before .before .before .before .before .before .before .args .t1) (c .before .before .before .before .loop .x) _ 3 (c .before .before .before .before .loop .inv .2) (too-high (c .before .before .before .before .before .before .before .args .t1) (c .before .before .before .before .loop .x) (omega arith)) (omega arith) (omega arith))
+returns c =
+    shaft-high (c .before .before .before .before .loop .inv .2) (c .before .before .before .loop-test .taken) (omega (arith, c .if1 .taken, c .before .depth-of .ensures, c .before .before .height-at .ensures))
+
+cast-check-rows : tie.Need-cast-check-rows Inv-loop μ-loop
+cast-check-rows c = search needs
 
 check-rows-requires : tie.Need-check-rows-requires Inv-loop μ-loop
-check-rows-requires c κs = search needs
+check-rows-requires c κs =
+    let a = c .before .before .before .before .before .before .args in
+    (omega (arith, c .before .before .before .before .loop-test .taken, c .before .before .before .before .before .before .pre .0 .0), omega (arith, c .before .if1 .left, c .before .before .depth-of .ensures, c .before .before .before .before .before .before .pre .0 .1 (c .before .before .before .before .before .loop .x)))
 
-enum-known-verdict : tie.Need-enum-known-verdict Inv-loop μ-loop
-enum-known-verdict c = search needs
-
-refused-requires-2 : tie.Need-refused-requires-2 Inv-loop μ-loop
-refused-requires-2 c κs = search needs
+enum-known-f : tie.Need-enum-known-f Inv-loop μ-loop
+enum-known-f c = search needs
 
 returns-2 : tie.Need-returns-2 Inv-loop μ-loop
 returns-2 c =
-    let g = c .before .before .verdict .given in
-    let x = c .before .before .before .before .before .before .before .before .loop .x in
-    let e = refused-one (g .0 .0) _ _ _ (c .before .before .before .before .check-rows .ensures) (g .1) in
-    refused-is (g .0 .0) _ _ _ (c .refused2 .ensures) (shaft-met (c .before .before .before .before .before .before .before .before .before .before .before .args .t1) x _ _ (c .before .before .before .before .before .before .before .before .loop .inv .2) (by-rows (c .before .before .before .before .before .before .before .before .before .before .before .args .t1) x (omega arith) ∙ e) (fault-one (g .0 .0)) (omega arith))
+    shaft-refused (c .before .before .before .before .before .before .before .before .before .loop .inv .2) _ (c .before .before .before .before .before .before .before .before .loop-test .taken) (omega (arith, c .before .before .before .before .before .if1 .left, c .before .before .before .before .before .before .depth-of .ensures, c .before .before .before .before .before .before .before .height-at .ensures))
+    (subst (λ (k : ℕ). RowsAre (c .before .before .before .before .before .before .before .before .before .loop .marks) (c .before .before .before .before .before .before .before .before .before .before .args .slots .now) (c .before .before .before .before .before .before .before .before .before .loop .x) k (c .before .before .before .check-rows .last .1 .1 .1 .0) (c .before .before .before .check-rows .result)) (c .before .before .before .before .before .before .before .height-at .ensures) (c .before .before .before .check-rows .ensures))
+    (c .before .f .given .1)
 
 enum-told : tie.Need-enum-told Inv-loop μ-loop
 enum-told c = search needs
@@ -64,17 +56,20 @@ loop-less : tie.Need-loop-less Inv-loop μ-loop
 loop-less c = search needs
 
 loop-again : tie.Need-loop-again Inv-loop μ-loop
-loop-again c =
-    let x = c .before .before .before .before .before .before .before .loop .x in
-    let e = accepted-none _ _ _ (c .before .before .before .check-rows .ensures) (c .before .enum-told .given .1) in
-    (omega arith, omega arith, rw add-one (shaft-passed (c .before .before .before .before .before .before .before .before .before .before .args .t1) x (c .before .before .before .before .before .before .before .loop .inv .2) (by-rows (c .before .before .before .before .before .before .before .before .before .before .args .t1) x (omega arith) ∙ e .0)), rw add-one (e .1))
+loop-again c = (
+  refl,
+  omega (arith, c .before .before .before .before .before .before .before .loop-test .taken),
+  rw add-one
+      (shaft-taken (c .before .before .before .before .before .before .before .before .loop .inv .2) (omega (arith, c .before .before .before .before .if1 .left, c .before .before .before .before .before .depth-of .ensures, c .before .before .before .before .before .before .height-at .ensures))
+      (subst (λ (k : ℕ). RowsAre (c .before .before .before .before .before .before .before .before .loop .marks) (c .before .before .before .before .before .before .before .before .before .args .slots .now) (c .before .before .before .before .before .before .before .before .loop .x) k (c .before .before .check-rows .last .1 .1 .1 .0) (c .before .before .check-rows .result)) (c .before .before .before .before .before .before .height-at .ensures) (c .before .before .check-rows .ensures))
+      (c .enum-told .given .1)),
+)
 
 returns-3 : tie.Need-returns-3 Inv-loop μ-loop
-unfolding cassettes
 returns-3 c =
-    let k : c .before .loop .x ≡ c .before .before .before .before .args .t1 .m = omega arith in
-    accepted-is _ _ (c .before .loop .marks) (ap (shaftsFault (c .before .before .before .before .args .t1)) (sym k) ∙ c .before .loop .inv .2)
-    (c .before .loop .inv .3 ∙ ap (λ (n : ℕ). withMarks noMarks (cassettesBelow (c .before .before .before .before .args .t1) n)) k)
+    let a = c .before .before .args in
+    let k : c .before .loop .x ≡ a .m = omega (arith, c .loop-test .left, c .before .loop .inv .1) in
+    shafts-taken (subst (λ (n : ℕ). ShaftsSoFar (held (a .m) (a .h) (a .heights .now) (a .slots .now)) n (c .before .loop .marks)) k (c .before .loop .inv .2))
 
 pub check-shafts-spec : {M : Type 1} → statement M
 check-shafts-spec =
@@ -82,15 +77,13 @@ check-shafts-spec =
     (tie.spec
     Inv-loop
     μ-loop
-    wide-requires
-    none-requires
     loop-holds
-    element-copy-out-if1
-    refused-requires
+    height-at-requires
+    depth-of-requires
     returns
+    cast-check-rows
     check-rows-requires
-    enum-known-verdict
-    refused-requires-2
+    enum-known-f
     returns-2
     enum-told
     add-x

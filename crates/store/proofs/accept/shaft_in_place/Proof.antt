@@ -1,81 +1,73 @@
--- `shaft_in_place` meets its contract. The invariant: the slots passed are in place.
+-- `shaft_in_place` meets its contract. The invariant: the slots passed, from the fillable rows up, are empty.
 use borrow.Author.Needs.{needs}
-use borrow.Author.Tests.{lt-leb, le-leb, not-true, not-false}
-use mathlib.Core.Bool.{true}
-use mathlib.Core.Path.{_≡_, refl, sym, ap, _∙_}
-use Prim.Native.Nat.{ℕ, _≤_, _<_, _-_}
-use native.Mathlib.Numerals.{add-one}
+use mathlib.Core.Path.{_≡_, sym, ap, _∙_}
+use Prim.Native.Nat.{ℕ, suc, _-_, _≤_, _<_}
+use native.Mathlib.Decide.{ℕ-discrete}
 use native.Mathlib.Omega.{arith}
-use Rattle.store.specs.Slots.{height}
-use Rattle.store.specs.Accept.{allBelow, usable, slotInPlace, shaftInPlace}
-use Rattle.store.proofs.Faulted.{all-more, all-fails}
-use Rattle.store.proofs.InPlace.{slot-tested}
+use Rattle.lifts.specs.Lifting.{heightIn, shown}
+use Rattle.store.specs.Accept.{fillable}
+use Rattle.store.proofs.InPlace.{shaft-past, slot-filled, shaft-fits}
 use Rattle.store.proofs.accept.shaft_in_place.Statement.{statement}
 use Rattle.store.proofs.accept.shaft_in_place.Tie as tie
 
 abbrev Inv-loop : tie.InvT-loop
-Inv-loop x s rows k₀ k = (k ≤ 16) × (allBelow k (slotInPlace s x) ≡ true) × (rows ≡ usable s x) × (height s x ≤ rows)
+Inv-loop m heights slots x rows k₀ k = (rows ≡ fillable m heights x) × (heightIn heights x ≤ rows) × (rows ≤ k) × ((j : ℕ) → rows ≤ j → j < k → shown slots x (suc j) ≡ 0)
 
 abbrev μ-loop : tie.MeasureT-loop
-μ-loop x s rows k₀ k = 16 - k
+μ-loop m heights slots x rows k₀ k = 16 - k
 
-usable-rows-requires : tie.Need-usable-rows-requires Inv-loop μ-loop
-usable-rows-requires c κs = search needs
+fillable-rows-requires : tie.Need-fillable-rows-requires Inv-loop μ-loop
+fillable-rows-requires c κs = search needs
 
-element-copy-out-wide : tie.Need-element-copy-out-wide Inv-loop μ-loop
-element-copy-out-wide c = search needs
+height-at-requires : tie.Need-height-at-requires Inv-loop μ-loop
+height-at-requires c κs = search needs
 
-wide-requires : tie.Need-wide-requires Inv-loop μ-loop
-wide-requires c κs = search needs
+cast-if1 : tie.Need-cast-if1 Inv-loop μ-loop
+cast-if1 c = search needs
 
 returns : tie.Need-returns Inv-loop μ-loop
-unfolding shaftInPlace
-returns c = let h : usable (c .before .before .before .before .args .t1) (c .before .before .before .before .args .x) < height (c .before .before .before .before .args .t1) (c .before .before .before .before .args .x) = omega arith in simp (lt-leb _ _ h)
+returns c = shaft-past (c .before .before .before .args .m) (c .before .before .before .args .heights .now) (c .before .before .before .args .slots .now) (c .before .before .before .args .x) (omega (arith, c .if1 .taken, c .before .height-at .ensures, c .before .before .fillable-rows .ensures))
 
 loop-holds : tie.Need-loop-holds Inv-loop μ-loop
-unfolding allBelow
-loop-holds c = (search needs, refl, c .before .before .before .usable-rows .ensures, omega arith)
+loop-holds c = (c .before .before .fillable-rows .ensures, omega (arith, c .if1 .left, c .before .height-at .ensures), omega arith, λ j h i. absurd (omega arith))
 
-mul-slot-in-place : tie.Need-mul-slot-in-place Inv-loop μ-loop
-mul-slot-in-place c = search needs
+mul-slot-at : tie.Need-mul-slot-at Inv-loop μ-loop
+mul-slot-at c = search needs
 
-add-slot-in-place : tie.Need-add-slot-in-place Inv-loop μ-loop
-add-slot-in-place c = search needs
+add-slot-at : tie.Need-add-slot-at Inv-loop μ-loop
+add-slot-at c = search needs
 
-element-copy-out-slot-in-place : tie.Need-element-copy-out-slot-in-place Inv-loop μ-loop
-element-copy-out-slot-in-place c = search needs
-
-slot-in-place-requires : tie.Need-slot-in-place-requires Inv-loop μ-loop
-slot-in-place-requires c κs = search needs
+slot-at-requires : tie.Need-slot-at-requires Inv-loop μ-loop
+slot-at-requires c κs = search needs
 
 returns-2 : tie.Need-returns-2 Inv-loop μ-loop
-unfolding shaftInPlace
+unfolding shown
 returns-2 c =
-    let f = all-fails 16 (slotInPlace (c .before .before .before .before .before .before .before .before .before .args .t1) (c .before .before .before .before .before .before .before .before .before .args .x)) (c .before .before .before .before .loop .k) (omega arith) (slot-tested (c .before .before .before .before .before .before .before .before .before .args .t1) (c .before .before .before .before .before .before .before .before .before .args .x) (c .before .before .before .before .loop .k) (c .before .before .before .before .loop .inv .2) (c .before .slot-in-place .ensures) ∙ not-true _ (c .if2 .taken)) in
-    let t : height (c .before .before .before .before .before .before .before .before .before .args .t1) (c .before .before .before .before .before .before .before .before .before .args .x) ≤ usable (c .before .before .before .before .before .before .before .before .before .args .t1) (c .before .before .before .before .before .before .before .before .before .args .x) = omega arith in
-    simp (le-leb _ _ t, f)
+    slot-filled (c .before .before .before .before .before .before .before .args .m) (c .before .before .before .before .before .before .before .args .heights .now) (c .before .before .before .before .before .before .before .args .slots .now) (c .before .before .before .before .before .before .before .args .x) (c .before .before .before .loop .k) (c .before .before .loop-test .taken)
+    (omega (arith, c .before .before .before .loop .inv .0, c .before .before .before .loop .inv .2)) (λ e. c .if2 .taken (c .before .slot-at .ensures ∙ e))
 
 add-k : tie.Need-add-k Inv-loop μ-loop
 add-k c = search needs
 
 loop-less : tie.Need-loop-less Inv-loop μ-loop
-loop-less c = search needs
+loop-less c = omega (arith, c .before .before .loop-test .taken)
 
 loop-again : tie.Need-loop-again Inv-loop μ-loop
+unfolding shown
 loop-again c = (
-  omega arith,
-  rw add-one (all-more (c .before .before .before .before .loop .k) (slotInPlace (c .before .before .before .before .before .before .before .before .before .args .t1) (c .before .before .before .before .before .before .before .before .before .args .x)) (c .before .before .before .before .loop .inv .1) (slot-tested (c .before .before .before .before .before .before .before .before .before .args .t1) (c .before .before .before .before .before .before .before .before .before .args .x) (c .before .before .before .before .loop .k) (c .before .before .before .before .loop .inv .2) (c .before .slot-in-place .ensures) ∙ not-false _ (c .if2 .left))),
-  c .before .before .before .before .loop .inv .2,
-  c .before .before .before .before .loop .inv .3,
+  c .before .before .before .loop .inv .0,
+  c .before .before .before .loop .inv .1,
+  omega (arith, c .before .before .before .loop .inv .2),
+  λ j h i. elim (ℕ-discrete j (c .before .before .before .loop .k)) [
+    | yes q ↦ ap (λ (n : ℕ). shown (c .before .before .before .before .before .before .before .args .slots .now) (c .before .before .before .before .before .before .before .args .x) (suc n)) q ∙ sym (c .before .slot-at .ensures) ∙ c .if2 .left
+    | no q ↦ c .before .before .before .loop .inv .3 j h (omega arith)
+  ],
 )
 
 returns-3 : tie.Need-returns-3 Inv-loop μ-loop
-unfolding shaftInPlace
 returns-3 c =
-    let k : c .before .loop .k ≡ 16 = omega arith in
-    let e = ap (λ (n : ℕ). allBelow n (slotInPlace (c .before .before .before .before .before .before .args .t1) (c .before .before .before .before .before .before .args .x))) (sym k) ∙ c .before .loop .inv .1 in
-    let t : height (c .before .before .before .before .before .before .args .t1) (c .before .before .before .before .before .before .args .x) ≤ usable (c .before .before .before .before .before .before .args .t1) (c .before .before .before .before .before .before .args .x) = omega arith in
-    simp (le-leb _ _ t, e)
+    shaft-fits (c .before .before .before .before .before .args .m) (c .before .before .before .before .before .args .heights .now) (c .before .before .before .before .before .args .slots .now) (c .before .before .before .before .before .args .x) (omega (arith, c .before .loop .inv .0, c .before .loop .inv .1))
+    (λ k h i. c .before .loop .inv .3 k (omega (arith, c .before .loop .inv .0)) (omega (arith, c .loop-test .left)))
 
 pub shaft-in-place-spec : {M : Type 1} → statement M
 shaft-in-place-spec =
@@ -83,15 +75,14 @@ shaft-in-place-spec =
     (tie.spec
     Inv-loop
     μ-loop
-    usable-rows-requires
-    element-copy-out-wide
-    wide-requires
+    fillable-rows-requires
+    height-at-requires
+    cast-if1
     returns
     loop-holds
-    mul-slot-in-place
-    add-slot-in-place
-    element-copy-out-slot-in-place
-    slot-in-place-requires
+    mul-slot-at
+    add-slot-at
+    slot-at-requires
     returns-2
     add-k
     loop-less

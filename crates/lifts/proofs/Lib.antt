@@ -1,0 +1,4 @@
+pub mod Halves
+pub mod Judging
+pub mod Moving
+pub mod Numbered

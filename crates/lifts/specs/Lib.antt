@@ -1,0 +1,4 @@
+pub mod Bytes
+pub mod Carried
+pub mod Lifting
+pub mod Numbers

@@ -1,0 +1,152 @@
+-- With three shafts or more: rounds can be played from the rows that agree, and they make a list within the list space, an empty one where start and goal
+-- are the same.
+use mathlib.Core.List.{List}
+use mathlib.Core.Path.{_≡_, sym, ap, _∙_, subst}
+use Prim.Native.Nat.{ℕ, _+_, _*_, _-_, _≤_, _<_}
+use native.Mathlib.Decide.{decLt}
+use native.Mathlib.Omega.{arith}
+use lib.ListN.{length}
+use Rattle.stacks.specs.Count.{sum, greatest, total}
+use Rattle.stacks.specs.Placing.{Onto}
+use Rattle.stacks.proofs.Sums.{sum-le, Less, some-positive}
+use Rattle.stacks.proofs.Counts.{same-total}
+use Rattle.stacks.proofs.Rounds.{within-bound}
+use Rattle.stacks.proofs.Floors.{filled-and-empty}
+use Rattle.store.specs.declared.Store.{Store}
+use Rattle.store.specs.Slots.{depth, DepthsFit, deepest, height, rowsDown, stack, cassetteCount, emptyCount, listSpace}
+use Rattle.store.specs.Sound.{Shaped, Sound}
+use Rattle.store.proofs.Acceptance.{accepted-sound}
+use Rattle.store.proofs.Rows.{stack-length}
+use Rattle.reach.specs.Pairs.{Comparable}
+use Rattle.reach.specs.Rules.{floor, Rule}
+use Rattle.reach.proofs.Agree.{total-agrees, empties-agree}
+use Rattle.reach.proofs.Reachability.{start-within, beyond, same-occurrences, start-floor, goal-floor, rule-floors}
+use Rattle.rules.proofs.RuleLaws.{count-most}
+use Rattle.moves.specs.Written.{Steps}
+use Rattle.placing.specs.declared.Frame.{Frame}
+use Rattle.lifts.specs.Lifting.{mostShafts, mostRows, heightIn}
+use Rattle.placing.specs.Frames.{storeOf, Fits}
+use Rattle.placing.proofs.Bottoms.{shaped-fits, stack-onto}
+use Rattle.choices.specs.Choices.{AgreeingIs}
+use Rattle.turns.specs.Turning.{passedRows, OnTheWay}
+use Rattle.rounds.specs.Serving.{rowsLeft, ArrivedIs}
+use Rattle.turns.proofs.Way.{passed-length}
+use Rattle.making.specs.Made.{MadeIs}
+
+-- the frame of a store with e empty slots
+abbrev pub frameOf : Store → ℕ → Frame
+frameOf s e = record { m = s .m; h = s .h; e = e }
+
+-- the empty slots, counted
+pub count-fits : (s : Store) (n : ℕ) → Shaped s → n ≡ cassetteCount s → ((s .m ≤ mostShafts) × DepthsFit (s .h)) × (n ≤ sum (s .m) (depth s))
+count-fits s n h c = ((h .shafts, h .rows), rw c (count-most s h))
+
+pub empty-counted : (s : Store) (n e : ℕ) → n ≡ cassetteCount s → e ≡ sum (s .m) (depth s) - n → e ≡ emptyCount s
+unfolding emptyCount
+empty-counted s n e c f = f ∙ rw c
+
+module _ (s t : Store) (p : Comparable s t) (e : ℕ) (empty : e ≡ emptyCount s) where
+  start : Sound s
+  start = accepted-sound s (p .start)
+
+  goal : Sound t
+  goal = accepted-sound t (p .goal)
+
+  -- the goal in the frame of the start
+  framed : storeOf (frameOf s e) (t .heights) (t .slots) ≡ t
+  framed = λ i. record { m = p .frame .shafts i; h = p .frame .depths i; heights = t .heights; slots = t .slots }
+
+  pub fits-both : Fits (frameOf s e) (s .heights) × Fits (frameOf s e) (t .heights)
+  fits-both = (
+    shaped-fits (frameOf s e) (s .heights) (s .slots) (start .shaped),
+    shaped-fits (frameOf s e) (t .heights) (t .slots) (rw framed (goal .shaped)),
+  )
+
+  all-slots : total (s .m) (stack s) + e ≡ sum (s .m) (depth s)
+  all-slots = rw empty (rw (empties-agree s) at (filled-and-empty (s .m) (depth s) (stack s) (start-within s t p)))
+
+  module _ (done : List ℕ) (a : AgreeingIs (frameOf s e) (s .heights) (s .slots) (t .heights) (t .slots) done) where
+    -- the floors agree, so they are passed
+    floor-passed : 3 ≤ s .m → Rule s t → (x : ℕ) → x < s .m → floor s x ≤ heightIn done x
+    floor-passed three r x u =
+        a .longest x (floor s x) u (start-floor s t p x u) (goal-floor s t p x u)
+        (rule-floors s t p three r x u)
+
+    floor-held : 3 ≤ s .m → Rule s t → (x : ℕ) → x < s .m → depth s x ≤ e + heightIn done x
+    unfolding floor
+    floor-held three r x u = omega (arith, floor-passed three r x u)
+
+    rows-now : (x : ℕ) → Onto (passedRows (t .slots) done x) (stack s x)
+    rows-now x = rw (a .same x) at (stack-onto s x (heightIn done x) (a .now x))
+
+    rows-goal : (x : ℕ) → Onto (passedRows (t .slots) done x) (stack t x)
+    rows-goal x = stack-onto t x (heightIn done x) (a .goal x)
+
+    way-first : 2 < s .m → Rule s t → OnTheWay (frameOf s e) (t .heights) (t .slots) done (s .heights) (s .slots)
+    way-first three r = record {
+      held = record { shaped = start .shaped; all = all-slots };
+      goal-shaped = rw framed (goal .shaped);
+      three = three;
+      some-row = start .some-row;
+      sized = a .sized;
+      within = a .goal;
+      halfway = rw framed (record {
+        passed = record {
+          onto = rows-now;
+          floor = λ x u. omega (arith, floor-held three r x u, passed-length (t .slots) done x);
+          within = start-within s t p;
+          all = all-slots;
+        };
+        goal = rows-goal;
+        counts = same-occurrences s t p;
+        beyond = beyond s t p;
+      });
+    }
+
+    -- no more rows are left than there are cassettes, and none where start and goal are the same
+    left-few : rowsLeft (frameOf s e) (t .heights) done ≤ cassetteCount s
+    unfolding rowsLeft total
+    left-few =
+        omega (
+          arith,
+          sum-le (s .m) (λ x. heightIn (t .heights) x - heightIn done x) (λ x. length (stack t x)) (λ x _. omega (arith, stack-length t x)),
+          same-cassettes,
+        )
+      where
+        same-cassettes : sum (s .m) (λ x. length (stack t x)) ≡ cassetteCount s
+        same-cassettes = sym (same-total (s .m) (stack s) (stack t) (same-occurrences s t p)) ∙ total-agrees s
+
+    left-none : s ≡ t → rowsLeft (frameOf s e) (t .heights) done ≡ 0
+    unfolding rowsLeft
+    left-none eq =
+        elim (decLt 0 (sum (s .m) (λ x. heightIn (t .heights) x - heightIn done x))) [
+          | yes h ↦ absurd (go (some-positive (s .m) (λ x. heightIn (t .heights) x - heightIn done x) h))
+          | no h ↦ omega arith
+        ]
+      where
+        go : Less (s .m) (s .m) (λ x. 0) (λ x. heightIn (t .heights) x - heightIn done x) → ⊥
+        go b =
+            let x : ℕ = b .place in
+            let same : height t x ≡ height s x = ap (λ (u : Store). height u x) (sym eq) in
+            omega (
+              arith,
+              b .less,
+              a .longest x (height s x) (b .below) (omega arith) (omega arith) (ap (λ (u : Store). rowsDown (u .slots) x (height s x)) eq),
+            )
+
+    space-most : rowsLeft (frameOf s e) (t .heights) done * (4 * greatest (s .m) (depth s) + 8) ≤ listSpace s
+    unfolding listSpace deepest
+    space-most = within-bound (cassetteCount s) (rowsLeft (frameOf s e) (t .heights) done) (greatest (s .m) (depth s)) left-few
+
+    pub play-ready : (came : List ℕ) → 2 < s .m → Rule s t → listSpace s ≤ length came
+        → OnTheWay (frameOf s e) (t .heights) (t .slots) done (s .heights) (s .slots) × (rowsLeft (frameOf s e) (t .heights) done * (4 * greatest (s .m) (depth s) + 8) ≤ length came)
+    play-ready came three r h = (way-first three r, omega (arith, space-most))
+
+    pub made : {came done′ heights′ slots′ out : List ℕ} {count : ℕ}
+        → ArrivedIs (frameOf s e) (t .heights) (t .slots) done (s .heights) (s .slots) came done′ heights′ slots′ count out
+        → MadeIs s t came count out
+    made {came} {out = out} {count} r = record {
+      steps = subst (λ (u : Store). Steps s 0 came u count out) framed (r .steps);
+      short = omega (arith, r .few, space-most);
+      nothing = λ eq. omega (arith, r .few, ap (λ (j : ℕ). j * (4 * greatest (s .m) (depth s) + 8)) (left-none eq));
+    }

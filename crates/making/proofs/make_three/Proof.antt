@@ -1,0 +1,35 @@
+-- `make_three` meets its contract.
+use borrow.Author.Needs.{needs}
+use Rattle.store.proofs.Acceptance.{accepted-shaped}
+use Rattle.making.proofs.Making.{count-fits, empty-counted, fits-both, play-ready, made}
+use Rattle.making.proofs.make_three.Statement.{statement}
+use Rattle.making.proofs.make_three.Tie as tie
+
+empty-slots-requires : tie.Need-empty-slots-requires
+empty-slots-requires c κs = let t = c .before in count-fits _ _ (accepted-shaped _ (t .pre .0 .start)) (t .pre .1 .1 .0)
+
+agreeing-requires : tie.Need-agreeing-requires
+agreeing-requires c κs = let t = c .before .before .before .before .before .before .before .before in fits-both (t .args .start) (t .args .goal) (t .pre .0) _ (empty-counted _ _ _ (t .pre .1 .1 .0) (c .before .before .before .before .before .before .empty-slots .ensures))
+
+hints-of-requires : tie.Need-hints-of-requires
+hints-of-requires c κs = let t = c .before .before .before .before .before .before .before .before .before .before in accepted-shaped _ (t .pre .0 .start) .shafts
+
+play-all-requires : tie.Need-play-all-requires
+play-all-requires c κs = let t = c .before .before .before .before .before .before .before .before .before .before .before .before .before .before .before .before .before in play-ready (t .args .start) (t .args .goal) (t .pre .0) _ (empty-counted _ _ _ (t .pre .1 .1 .0) (c .before .before .before .before .before .before .before .before .before .before .before .before .before .before .before .empty-slots .ensures)) _ (c .before .before .before .before .before .before .before .before .agreeing .ensures) (t .args .out .now) (t .pre .1 .0 .0) (t .pre .1 .0 .1) (t .pre .1 .1 .1)
+
+same-length : tie.Need-same-length
+same-length c = search needs
+
+returns : tie.Need-returns
+returns c = let t = c .before .before .before .before .before .before .before .before .before .before .before .before .before .before .before .before .before .before .before .before in made (t .args .start) (t .args .goal) (t .pre .0) _ (empty-counted _ _ _ (t .pre .1 .1 .0) (c .before .before .before .before .before .before .before .before .before .before .before .before .before .before .before .before .before .before .empty-slots .ensures)) _ (c .before .before .before .before .before .before .before .before .before .before .before .agreeing .ensures) (c .before .before .play-all .ensures)
+
+pub make-three-spec : {M : Type 1} → statement M
+make-three-spec =
+    tie.close
+    (tie.spec
+    empty-slots-requires
+    agreeing-requires
+    hints-of-requires
+    play-all-requires
+    same-length
+    returns)

@@ -1,0 +1,92 @@
+// The list made, for two stores that can be compared and a goal that can be reached.
+use choices::agree::agreeing;
+use lifts::Shaft;
+use lifts::Slots;
+use lifts::slot_at;
+use moves::Hints;
+use moves::put_shift;
+use placing::Frame;
+use rounds::all::play_all;
+use store::Store;
+use store::empty_slots;
+ghost use mathlib.Core.Path.{_≡_};
+ghost use Prim.Native.Nat.{_≤_, _<_};
+ghost use lib.ListN.{length};
+ghost use Rattle.store.specs.Slots.{cassetteCount, listSpace};
+ghost use Rattle.reach.specs.Pairs.{Comparable};
+ghost use Rattle.reach.specs.Rules.{Rule};
+ghost use Rattle.making.specs.Made.{MadeIs};
+
+// With one shaft or two the difference of heights is shifted.
+fn make_two(start: Store, goal: Store, out: &mut [u8]) -> usize
+    requires { ⌜ Comparable start goal ⌝ }
+    requires { ⌜ (start .m ≤ 2) × Rule start goal ⌝ }
+    requires { ⌜ listSpace start ≤ length (now out) ⌝ }
+    ensures { λ r. ⌜ MadeIs start goal (now (out .entry)) r (now (out .exit)) ⌝ }
+{
+    let a = start.heights[0] as usize;
+    let b = goal.heights[0] as usize;
+    if b <= a {
+        return put_shift(out, 0, Shaft(0), Shaft(1), a - b);
+    }
+    put_shift(out, 0, Shaft(1), Shaft(0), b - a)
+}
+
+// Where each number stands: 16 places for each of m shafts. No promise rests on it.
+fn hints_of(m: u8, slots: &Slots) -> Hints
+    requires { ⌜ m ≤ 16 ⌝ }
+{
+    let mut hints: Hints = [0; 256];
+    let mut p: usize = 0;
+    let end = 16 * (m as usize);
+    while p < end {
+        let v = slot_at(slots, p) as usize;
+        hints[v] = p as u8;
+        p += 1;
+    }
+    hints
+}
+
+// With three shafts or more: rounds of direct placement, from the rows that agree already.
+fn make_three(start: Store, goal: Store, n: usize, out: &mut [u8]) -> usize
+    requires { ⌜ Comparable start goal ⌝ }
+    requires { ⌜ (2 < start .m) × Rule start goal ⌝ }
+    requires { ⌜ n ≡ cassetteCount start ⌝ }
+    requires { ⌜ listSpace start ≤ length (now out) ⌝ }
+    ensures { λ r. ⌜ MadeIs start goal (now (out .entry)) r (now (out .exit)) ⌝ }
+{
+    let m = start.m;
+    let h = start.h;
+    let e = empty_slots(m, h, n);
+    let f = Frame { m, h, e };
+    let tops = goal.heights;
+    let aims = goal.slots;
+    let mut heights = start.heights;
+    let mut slots = start.slots;
+    let mut done = agreeing(f, heights, &slots, tops, &aims);
+    let mut hints = hints_of(m, &slots);
+    play_all(
+        f,
+        tops,
+        &aims,
+        &mut done,
+        &mut heights,
+        &mut slots,
+        &mut hints,
+        out,
+    )
+}
+
+// The list, by the number of shafts.
+pub fn make(start: Store, goal: Store, n: usize, out: &mut [u8]) -> usize
+    requires { ⌜ Comparable start goal ⌝ }
+    requires { ⌜ Rule start goal ⌝ }
+    requires { ⌜ n ≡ cassetteCount start ⌝ }
+    requires { ⌜ listSpace start ≤ length (now out) ⌝ }
+    ensures { λ r. ⌜ MadeIs start goal (now (out .entry)) r (now (out .exit)) ⌝ }
+{
+    if start.m <= 2 {
+        return make_two(start, goal, out);
+    }
+    make_three(start, goal, n, out)
+}

@@ -1,0 +1,141 @@
+-- The marks are the set of the cassettes added, for any count of words: which are marked, and that their number is the number of cassettes where none
+-- is added twice.
+use borrow.Author.Tests.{eq-eqb, ne-eqb, lt-ltb, le-ltb}
+use mathlib.Core.List.{List, [], _∷_, _++_}
+use mathlib.Core.Path.{_≡_, refl, sym, ap, _∙_}
+use Prim.Native.Nat.{ℕ, zero, suc, _+_, _*_, _/_, _%_, _^_, max, _≤_, _<_}
+use native.Mathlib.Decide.{ℕ-discrete}
+use native.Mathlib.Nat.{zero-div, add-zero}
+use native.Mathlib.Omega.{arith}
+use lib.Bits.{bitOr}
+use lib.Count.{ones}
+use lib.Dec.{eqb, ltb}
+use lib.ListN.{length, getD, take, set, replicate, length-set, length-replicate}
+use lib.Seq.{getD-set-same, getD-set-other}
+use Rattle.stacks.specs.Count.{count, one}
+use Rattle.marks.specs.Marking.{marked, withMark, withMarks, markCount}
+use Rattle.marks.proofs.Words.{set-bit-same, set-bit-other, set-bit-ones}
+
+pub with-more : (w l : List ℕ) (c : ℕ) → withMarks w (l ++ (c ∷ [])) ≡ withMark (withMarks w l) c
+unfolding withMarks
+with-more w [] c = refl
+with-more w (x ∷ l) c = with-more (withMark w x) l c
+
+with-mark-length : (w : List ℕ) (c : ℕ) → length (withMark w c) ≡ length w
+unfolding withMark
+with-mark-length w c = length-set w (c / 64) _
+
+pub with-length : (w l : List ℕ) → length (withMarks w l) ≡ length w
+unfolding withMarks
+with-length w [] = refl
+with-length w (c ∷ l) = with-length (withMark w c) l ∙ with-mark-length w c
+
+marked-same : (w : List ℕ) (c : ℕ) → c < 64 * length w → marked (withMark w c) c ≡ 1
+unfolding marked withMark
+marked-same w c h =
+    rw (getD-set-same w (c / 64) (bitOr (getD w (c / 64) 0) (2 ^ (c % 64))) 0 (omega arith))
+    (set-bit-same (getD w (c / 64) 0) (c % 64))
+
+marked-other : (w : List ℕ) (c x : ℕ) → x < 64 * length w → (x ≡ c → ⊥) → marked (withMark w c) x ≡ marked w x
+unfolding marked withMark
+marked-other w c x h d =
+    elim (ℕ-discrete (x / 64) (c / 64)) [
+      | yes q ↦
+          rw (q, getD-set-same w (c / 64) (bitOr (getD w (c / 64) 0) (2 ^ (c % 64))) 0 (omega arith))
+          (set-bit-other (getD w (c / 64) 0) (x % 64) (c % 64) (omega arith))
+      | no q ↦ rw (getD-set-other w (c / 64) (x / 64) (bitOr (getD w (c / 64) 0) (2 ^ (c % 64))) 0 q)
+    ]
+
+-- a mark is 0 or 1
+marked-lt : (w : List ℕ) (c : ℕ) → marked w c < 2
+unfolding marked
+marked-lt w c = omega arith
+
+-- adding x marks x, and changes nothing else
+marked-max : (w : List ℕ) (c x : ℕ) → c < 64 * length w → marked (withMark w x) c ≡ max (marked w c) (one (eqb c x))
+marked-max w c x h =
+    elim (ℕ-discrete c x) [
+      | yes q ↦
+          let e : marked (withMark w x) c ≡ 1 = rw (← q) (marked-same w c h) in
+          omega (arith, ap one (eq-eqb c x q), marked-lt w c)
+      | no q ↦ omega (arith, marked-other w x c h q, ap one (ne-eqb c x q))
+    ]
+
+-- numbers within a factor of two are both zero or both positive
+same-sign : (a b : ℕ) → a ≤ b → b ≤ 2 * a → ltb 0 a ≡ ltb 0 b
+same-sign zero b h k = sym (le-ltb 0 b (omega arith))
+same-sign (suc a) b h k = lt-ltb 0 (suc a) (omega arith) ∙ sym (lt-ltb 0 b (omega arith))
+
+-- a bit is 1 exactly where it is positive
+bit-sign : (b : ℕ) → b < 2 → b ≡ one (ltb 0 b)
+bit-sign zero h = refl
+bit-sign (suc zero) h = refl
+bit-sign (suc (suc b)) h = absurd (omega arith)
+
+-- whether a cassette is marked: it was before, or stands in the list
+marked-after : (w l : List ℕ) (c : ℕ) → c < 64 * length w → marked (withMarks w l) c ≡ one (ltb 0 (marked w c + count c l))
+unfolding withMarks count
+marked-after w [] c h = rw add-zero (bit-sign (marked w c) (marked-lt w c))
+marked-after w (x ∷ l) c h =
+    let e : marked (withMark w x) c ≡ max (marked w c) (one (eqb c x)) = marked-max w c x h in
+    marked-after (withMark w x) l c (omega (arith, with-mark-length w x))
+    ∙ ap one (same-sign (marked (withMark w x) c + count c l) (marked w c + (one (eqb c x) + count c l)) (omega arith) (omega arith))
+
+zeros : (k i : ℕ) → _≡_ {A = ℕ} (getD (replicate k 0) i 0) 0
+zeros zero i = refl
+zeros (suc k) zero = refl
+zeros (suc k) (suc i) = zeros k i
+
+unmarked : (k c : ℕ) → marked (replicate k 0) c ≡ 0
+unfolding marked
+unmarked k c = rw (zeros k (c / 64)) (ap (λ (n : ℕ). n % 2) (zero-div (2 ^ (c % 64))))
+
+-- marks made from none: exactly the cassettes of the list
+pub marked-of : (k : ℕ) (l : List ℕ) (c : ℕ) → c < 64 * k → marked (withMarks (replicate k 0) l) c ≡ one (ltb 0 (count c l))
+marked-of k l c h =
+    let e : marked (replicate k 0) c + count c l ≡ count c l = omega (arith, unmarked k c) in
+    marked-after (replicate k 0) l c (omega (arith, length-replicate {A = ℕ} k 0)) ∙ ap (λ (m : ℕ). one (ltb 0 m)) e
+
+-- a word set to one with one more
+count-set : (w : List ℕ) (i v : ℕ) → i < length w → ones v ≡ ones (getD w i 0) + 1 → markCount (set w i v) ≡ markCount w + 1
+unfolding markCount
+count-set [] i v h e = absurd (omega arith)
+count-set (x ∷ w) zero v h e = omega arith
+count-set (x ∷ w) (suc i) v h e = omega (arith, count-set w i v (omega arith) e)
+
+-- one mark more
+mark-counts : (w : List ℕ) (c : ℕ) → c < 64 * length w → marked w c ≡ 0 → markCount (withMark w c) ≡ markCount w + 1
+unfolding marked withMark
+mark-counts w c h e = count-set w (c / 64) _ (omega arith) (set-bit-ones (getD w (c / 64) 0) (c % 64) e)
+
+-- every cassette of a list is below a bound
+abbrev pub Below : ℕ → List ℕ → Type 0
+Below n l = (c : ℕ) → 0 < count c l → c < n
+
+-- "n is the number of marks"
+counts-all : (n : ℕ) (w l : List ℕ) → n ≤ 64 * length w → Below n l → ((c : ℕ) → c < n → marked w c + count c l ≤ 1) → markCount (withMarks w l) ≡ markCount w + length l
+unfolding withMarks count
+counts-all n w [] k b h = omega arith
+counts-all n w (c ∷ l) k b h =
+    let here : one (eqb c c) ≡ 1 = ap one (eq-eqb c c refl) in
+    let below : c < n = b c (omega arith) in
+    let marks : markCount (withMark w c) ≡ markCount w + 1 = mark-counts w c (omega arith) (omega (arith, h c below)) in
+    counts-all n (withMark w c) l (omega (arith, with-mark-length w c)) (λ x p. b x (omega arith)) (λ x p. omega (arith, h x p, marked-max w x c (omega arith)))
+    ∙ omega arith
+
+no-marks-count : (k : ℕ) → markCount (replicate k 0) ≡ 0
+unfolding markCount ones
+no-marks-count zero = refl
+no-marks-count (suc k) = omega (arith, no-marks-count k)
+
+-- marks made from none: as many as cassettes, where none stands twice
+pub count-of : (k : ℕ) (l : List ℕ) → Below (64 * k) l → ((c : ℕ) → count c l ≤ 1) → markCount (withMarks (replicate k 0) l) ≡ length l
+count-of k l b h =
+    counts-all (64 * k) (replicate k 0) l (omega (arith, length-replicate {A = ℕ} k 0)) b (λ c p. omega (arith, unmarked k c, h c)) ∙ omega (arith, no-marks-count k)
+
+-- the marks of some words more
+pub count-more : (w : List ℕ) (i : ℕ) → i < length w → markCount (take (suc i) w) ≡ markCount (take i w) + ones (getD w i 0)
+unfolding markCount
+count-more [] i h = absurd (omega arith)
+count-more (x ∷ w) zero h = omega arith
+count-more (x ∷ w) (suc i) h = omega (arith, count-more w i (omega arith))

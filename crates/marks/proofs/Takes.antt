@@ -1,0 +1,128 @@
+-- Taking one cassette more: the fault by what is marked, and the marks with it.
+use borrow.Author.Tests.{eqb-true, eq-eqb, ne-eqb, lt-ltb, le-ltb, ltb-true, ltb-false, eqb-false}
+use mathlib.Core.Bool.{Bool, true, false, not, _&&_}
+use mathlib.Core.List.{List, [], _∷_, _++_}
+use mathlib.Core.Path.{_≡_, refl, sym, ap, _∙_}
+use Prim.Native.Nat.{ℕ, _+_, _≤_, _<_}
+use native.Mathlib.Decide.{ℕ-discrete}
+use native.Mathlib.Omega.{arith}
+use lib.Dec.{eqb, ltb}
+use lib.ListN.{length}
+use Rattle.stacks.specs.Count.{count, one}
+use Rattle.stacks.proofs.Counts.{count-append}
+use Rattle.marks.specs.declared.Taken.the-variants.{Added, NumberZero, Twice}
+use Rattle.marks.specs.Cassettes.{numbers, mayRepeat, given, cassetteFault}
+use Rattle.marks.specs.Marking.{markWords, noMarks, marked, withMark, withMarks, markCount, Marked}
+use Rattle.marks.specs.Taking.{TakenIs}
+use Rattle.marks.proofs.Faulted.{first-none, given-none, both-true}
+use Rattle.marks.proofs.MarkLaws.{with-more, marked-of, count-of}
+
+-- "No cassette stands twice in a store."
+pub none-repeats : (c : ℕ) → mayRepeat c ≡ false
+unfolding mayRepeat
+none-repeats c = refl
+
+-- the fault of one cassette more, by cases
+module _ (l : List ℕ) (c : ℕ) where
+  pub zero-refused : c ≡ 0 → cassetteFault l c ≡ 4
+  unfolding cassetteFault
+  zero-refused e = simp (eq-eqb c 0 e)
+
+  pub twice-refused : (c ≡ 0 → ⊥) → mayRepeat c ≡ false → 0 < count c l → cassetteFault l c ≡ 5
+  unfolding cassetteFault
+  twice-refused n r h = simp (ne-eqb c 0 n, r, lt-ltb 0 (count c l) h)
+
+  pub cassette-taken : (c ≡ 0 → ⊥) → (mayRepeat c ≡ false → count c l ≡ 0) → cassetteFault l c ≡ 0
+  unfolding cassetteFault
+  cassette-taken n h = simp (ne-eqb c 0 n) (by-repeat (mayRepeat c) refl)
+    where
+      by-repeat : (r : Bool) → mayRepeat c ≡ r → given (not r && ltb 0 (count c l)) 5 ≡ 0
+      by-repeat true e = refl
+      by-repeat false e = simp (le-ltb 0 (count c l) (omega (arith, h e)))
+
+  pub taken-cassette : cassetteFault l c ≡ 0 → (c ≡ 0 → ⊥) × (mayRepeat c ≡ false → count c l ≡ 0)
+  unfolding cassetteFault
+  taken-cassette e =
+      let p = first-none _ _ e in
+      (eqb-false c 0 (given-none _ 3 (p .0)), λ r. let h : count c l ≤ 0 = ltb-false 0 (count c l) (sym (ap (λ (t : Bool). not t && ltb 0 (count c l)) r) ∙ given-none _ 4 (p .1)) in omega arith)
+
+one-true : (t : Bool) → one t ≡ 1 → t ≡ true
+one-true true e = refl
+one-true false e = absurd (omega arith)
+
+not-one : (t : Bool) → eqb (one t) 1 ≡ false → t ≡ false
+not-one true e = absurd (let z : _≡_ {A = ℕ} 0 1 = cc in omega arith)
+not-one false e = refl
+
+-- what the mark of a cassette says
+module _ (words l : List ℕ) (c : ℕ) (m : Marked words l) (h : c < numbers) where
+  is-one : marked words c ≡ one (ltb 0 (count c l))
+  is-one = ap (λ (v : List ℕ). marked v c) (m .marks) ∙ marked-of markWords l c h
+
+  -- a marked cassette stands in the list
+  pub mark-found : eqb (marked words c) 1 ≡ true → 0 < count c l
+  mark-found t = ltb-true 0 (count c l) (one-true _ (sym is-one ∙ eqb-true (marked words c) 1 t))
+
+  -- a cassette without a mark does not
+  pub mark-missing : eqb (marked words c) 1 ≡ false → count c l ≡ 0
+  mark-missing t =
+      let z : count c l ≤ 0 = ltb-false 0 (count c l) (not-one _ (ap (λ (n : ℕ). eqb n 1) (sym is-one) ∙ t)) in
+      omega arith
+
+pub nothing-marked : Marked noMarks []
+unfolding withMarks count
+nothing-marked = record { marks = refl; below = λ c h. absurd (omega arith); once = λ c r. omega arith }
+
+-- one cassette more, that stood nowhere unless it may
+marked-more : (words l : List ℕ) (c : ℕ) → Marked words l → c < numbers → (mayRepeat c ≡ false → count c l ≡ 0) → Marked (withMark words c) (l ++ (c ∷ []))
+unfolding count
+marked-more words l c m h z = record {
+  marks = ap (λ (w : List ℕ). withMark w c) (m .marks) ∙ sym (with-more _ l c);
+  below = λ d p. elim (ℕ-discrete d c) [
+    | yes e ↦ omega arith
+    | no n ↦ m .below d (omega (arith, more d, ap one (ne-eqb d c n)))
+  ];
+  once = λ d r. elim (ℕ-discrete d c) [
+    | yes e ↦ omega (arith, more d, ap one (eq-eqb d c e), ap (λ (n : ℕ). count n l) e, z (rw (← e) r))
+    | no n ↦ omega (arith, more d, ap one (ne-eqb d c n), m .once d r)
+  ];
+}
+  where
+    more : (d : ℕ) → count d (l ++ (c ∷ [])) ≡ count d l + (one (eqb d c) + 0)
+    more d = count-append d l (c ∷ [])
+
+-- the answers of taking a cassette
+module _ (words : List ℕ) (c : ℕ) where
+  pub zero-is : c ≡ 0 → TakenIs words c words NumberZero
+  zero-is e = record {
+    number = sym (simp (eq-eqb c 0 e));
+    words-are = refl;
+    fault = λ before m. sym (zero-refused before c e);
+    marks = λ before m. refl;
+  }
+
+  module _ (n : c ≡ 0 → ⊥) (h : c < numbers) where
+    pub twice-is : (not (mayRepeat c) && eqb (marked words c) 1) ≡ true → TakenIs words c words Twice
+    twice-is t =
+        let p = both-true (not (mayRepeat c)) (eqb (marked words c) 1) t in
+        record {
+          number = sym (simp (ne-eqb c 0 n, t));
+          words-are = refl;
+          fault = λ before m. sym (twice-refused before c n (none-repeats c) (mark-found words before c m h (p .1)));
+          marks = λ before m. refl;
+        }
+
+    pub added-is : (not (mayRepeat c) && eqb (marked words c) 1) ≡ false → TakenIs words c (withMark words c) Added
+    added-is t =
+        let z : (before : List ℕ) → Marked words before → mayRepeat c ≡ false → count c before ≡ 0 =
+        λ before m r. mark-missing words before c m h (sym (ap (λ (b : Bool). not b && eqb (marked words c) 1) r) ∙ t) in
+        record {
+          number = sym (simp (ne-eqb c 0 n, t));
+          words-are = refl;
+          fault = λ before m. sym (cassette-taken before c n (z before m));
+          marks = λ before m. marked-more words before c m h (z before m);
+        }
+
+-- "n is the number of marks"
+pub marks-counted : (words l : List ℕ) → Marked words l → markCount words ≡ length l
+marks-counted words l m = ap markCount (m .marks) ∙ count-of markWords l (m .below) (λ c. m .once c (none-repeats c))

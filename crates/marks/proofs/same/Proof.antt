@@ -1,0 +1,75 @@
+-- `same` meets its contract: the words are the same exactly if each of them is.
+use borrow.Author.Needs.{needs}
+use mathlib.Core.List.{List}
+use mathlib.Core.Path.{_≡_, sym, ap, _∙_}
+use Prim.Native.Nat.{ℕ, _-_, _≤_, _<_}
+use native.Mathlib.Decide.{ℕ-discrete}
+use native.Mathlib.Omega.{arith}
+use lib.ListN.{length, getD}
+use lib.Seq.{ext-getD}
+use Rattle.stacks.proofs.Deciding.{holds, fails}
+use Rattle.marks.specs.Marking.{markWords}
+use Rattle.marks.proofs.same.Statement.{statement}
+use Rattle.marks.proofs.same.Tie as tie
+
+abbrev Inv-loop : tie.InvT-loop
+Inv-loop a b j₀ j = (j ≤ markWords) × ((k : ℕ) → k < j → getD a k 0 ≡ getD b k 0)
+
+abbrev μ-loop : tie.MeasureT-loop
+μ-loop a b j₀ j = markWords - j
+
+loop-holds : tie.Need-loop-holds Inv-loop μ-loop
+loop-holds c = (omega arith, λ j h. absurd (omega arith))
+
+mul-if1 : tie.Need-mul-if1 Inv-loop μ-loop
+mul-if1 c = search needs
+
+array-read-if1 : tie.Need-array-read-if1 Inv-loop μ-loop
+array-read-if1 c = search needs
+
+mul-if1-2 : tie.Need-mul-if1-2 Inv-loop μ-loop
+mul-if1-2 c = search needs
+
+array-read-if1-2 : tie.Need-array-read-if1-2 Inv-loop μ-loop
+array-read-if1-2 c = search needs
+
+returns : tie.Need-returns Inv-loop μ-loop
+returns c = fails λ e. c .if1 .taken (ap (λ (l : List ℕ). getD l (c .before .before .loop .j) 0) e)
+
+add-j : tie.Need-add-j Inv-loop μ-loop
+add-j c = omega (arith, c .before .before .loop .inv .0)
+
+loop-less : tie.Need-loop-less Inv-loop μ-loop
+loop-less c = omega (arith, c .before .loop-test .taken)
+
+loop-again : tie.Need-loop-again Inv-loop μ-loop
+loop-again c = (
+  omega (arith, c .before .loop-test .taken),
+  λ j h. elim (ℕ-discrete j (c .before .before .loop .j)) [
+    | yes q ↦ ap (λ (k : ℕ). getD (c .before .before .before .args .t1) k 0) q ∙ c .if1 .left ∙ ap (λ (k : ℕ). getD (c .before .before .before .args .t2) k 0) (sym q)
+    | no q ↦ c .before .before .loop .inv .1 j (omega arith)
+  ],
+)
+
+returns-2 : tie.Need-returns-2 Inv-loop μ-loop
+returns-2 c =
+    let m : length (c .before .before .args .t1) ≡ markWords = search needs in
+    let n : length (c .before .before .args .t2) ≡ markWords = search needs in
+    holds (ext-getD 0 (c .before .before .args .t1) (c .before .before .args .t2) (m ∙ sym n) λ j h. c .before .loop .inv .1 j (omega (arith, c .loop-test .left)))
+
+pub same-spec : {M : Type 1} → statement M
+same-spec =
+    tie.close
+    (tie.spec
+    Inv-loop
+    μ-loop
+    loop-holds
+    mul-if1
+    array-read-if1
+    mul-if1-2
+    array-read-if1-2
+    returns
+    add-j
+    loop-less
+    loop-again
+    returns-2)

@@ -1,0 +1,28 @@
+-- Cassette numbers (document 01, "The store"), and the fault of one more cassette ("Refused because of the input"). 0 is no fault.
+use mathlib.Core.Bool.{Bool, true, false, not, _&&_}
+use mathlib.Core.List.{List}
+use Prim.Native.Nat.{ℕ, zero, suc}
+use lib.Dec.{ltb, eqb}
+use Rattle.stacks.specs.Count.{count}
+
+-- "A cassette is a number 1 to 255. 0 marks an empty slot and nothing else.": what a slot shows is below this
+abbrev pub numbers : ℕ
+numbers = 256
+
+-- which numbers may stand more than once: "No cassette stands twice in a store."
+unfoldable pub mayRepeat : ℕ → Bool
+mayRepeat c = false
+
+-- the number k where the test holds, else none
+abbrev pub given : Bool → ℕ → ℕ
+given true k = k
+given false k = 0
+
+-- the first of two faults that is one
+abbrev pub first : ℕ → ℕ → ℕ
+first zero k = k
+first (suc j) k = suc j
+
+-- "4. A cassette number 0. 5. A cassette number that stood earlier in the image." (4 before 5)
+unfoldable pub cassetteFault : List ℕ → ℕ → ℕ
+cassetteFault before c = first (given (eqb c 0) 4) (given (not (mayRepeat c) && ltb 0 (count c before)) 5)

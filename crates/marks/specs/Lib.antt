@@ -1,0 +1,3 @@
+pub mod Cassettes
+pub mod Marking
+pub mod Taking

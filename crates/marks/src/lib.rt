@@ -1,0 +1,123 @@
+// Cassette numbers and the set of marks (document 01, "The store": "kept as a set of marks, and n is the number of marks"), changed in
+// place.
+ghost use mathlib.Core.Bool.{not, _&&_};
+ghost use mathlib.Core.Path.{_≡_};
+ghost use Prim.Native.Nat.{_≤_, _<_};
+ghost use lib.Count.{ones};
+ghost use lib.Dec.{eqb};
+ghost use lib.ListN.{getD};
+ghost use Rattle.stacks.specs.Deciding.{Decides};
+ghost use Rattle.marks.specs.Cassettes.{mayRepeat};
+ghost use Rattle.marks.specs.Marking.{noMarks, marked, withMark, markCount};
+ghost use Rattle.marks.specs.Taking.{TakenIs};
+
+// "A cassette is a number 1 to 255. 0 marks an empty slot and nothing else."
+pub type Cassette = u8;
+
+// Words of marks: bit c % 64 of word c / 64 stands for cassette c.
+pub type Words = [u64; 4];
+
+pub fn none() -> Words
+    ensures { λ r. ⌜ r ≡ noMarks ⌝ }
+{
+    [0u64; 4]
+}
+
+// Whether a number may stand more than once.
+fn may_repeat(c: Cassette) -> bool
+    ensures { λ r. ⌜ r ≡ mayRepeat c ⌝ }
+{
+    false
+}
+
+// A word of marks.
+fn word(words: &Words, i: usize) -> u64
+    requires { ⌜ i < 4 ⌝ }
+    ensures { λ r. ⌜ r ≡ getD (now (words .entry)) i 0 ⌝ }
+{
+    words[i]
+}
+
+// Whether a cassette is marked.
+fn has(words: &Words, c: Cassette) -> bool
+    ensures { λ r. ⌜ r ≡ eqb (marked (now (words .entry)) c) 1 ⌝ }
+{
+    let i = (c >> 6) as usize;
+    let k = (c & 63) as u64;
+    (words[i] >> k) & 1 == 1
+}
+
+// Marks a cassette.
+fn mark(words: &mut Words, c: Cassette)
+    ensures { λ r. ⌜ now (words .exit) ≡ withMark (now (words .entry)) c ⌝ }
+{
+    let i = (c >> 6) as usize;
+    let k = (c & 63) as u64;
+    words[i] = word(words, i) | (1u64 << k);
+}
+
+// Whether a cassette is marked and may not stand more than once.
+fn stands_already(words: &Words, c: Cassette) -> bool
+    ensures { λ r. ⌜ r ≡ (not (mayRepeat c) && eqb (marked (now (words .entry)) c) 1) ⌝ }
+{
+    if may_repeat(c) {
+        return false;
+    }
+    has(words, c)
+}
+
+// Whether one cassette more was added to others, or why not: 4, 5.
+pub enum Taken {
+    Added,
+    NumberZero,
+    Twice,
+}
+
+// Takes one cassette more: its fault, or the marks with it.
+pub fn take(words: &mut Words, c: Cassette) -> Taken
+    ensures { λ r. ⌜ TakenIs (now (words .entry)) c (now (words .exit)) r ⌝ }
+{
+    if c == 0 {
+        return Taken::NumberZero;
+    }
+    if stands_already(words, c) {
+        return Taken::Twice;
+    }
+    mark(words, c);
+    Taken::Added
+}
+
+// How many bits of a word are set.
+fn ones_of(w: u64) -> usize
+    ensures ones { λ r. ⌜ r ≡ ones w ⌝ }
+    ensures most { λ r. ⌜ r ≤ 64 ⌝ }
+{
+    u64::count_ones(w) as usize
+}
+
+// How many cassettes are marked: the sum of the words' ones.
+pub fn count(words: Words) -> usize
+    ensures { λ r. ⌜ r ≡ markCount words ⌝ }
+{
+    let mut n: usize = 0;
+    let mut i: usize = 0;
+    while i < 4 {
+        n += ones_of(words[i]);
+        i += 1;
+    }
+    n
+}
+
+// Whether two sets of marks are the same.
+pub fn same(a: Words, b: Words) -> bool
+    ensures { λ r. ⌜ Decides r (a ≡ b) ⌝ }
+{
+    let mut j: usize = 0;
+    while j < 4 {
+        if a[j] != b[j] {
+            return false;
+        }
+        j += 1;
+    }
+    true
+}

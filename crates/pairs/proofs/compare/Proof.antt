@@ -1,0 +1,128 @@
+-- `compare` meets its contract: the start, the goal, 8, then 9 by the marks.
+use borrow.Author.Needs.{needs}
+use borrow.Author.Tests.{not-true, not-false}
+use mir.Syntax.{w64}
+use mir.Val.{Fits}
+use Prim.Native.Nat.{ℕ, _^_, _<_}
+use lib.ListN.{getD}
+use Rattle.store.proofs.Checks.{accepted-none, refused-one}
+use Rattle.reach.proofs.Sets.{frames-agree}
+use Rattle.pairs.proofs.Answers.{refused-as, compared-as}
+use Rattle.pairs.proofs.Faults.{AcceptedMarks, frames-differ, marks-differ, marks-agree}
+use Rattle.pairs.proofs.compare.Statement.{statement}
+use Rattle.pairs.proofs.compare.Tie as tie
+
+-- the words of the marks, as the arrays have them
+start-words : (c : tie.After-check) (i : ℕ) → getD (c .check .result .marks) i 0 < 2 ^ 64
+start-words c i = let f : Fits w64 (getD (c .check .result .marks) i 0) = search needs in f .fits
+
+goal-words : (c : tie.After-check2) (i : ℕ) → getD (c .check2 .result .marks) i 0 < 2 ^ 64
+goal-words c i = let f : Fits w64 (getD (c .check2 .result .marks) i 0) = search needs in f .fits
+
+-- where neither store is refused: both are accepted, and their marks are those of their cassettes
+start-marked : (c : tie.After-enum-told) → AcceptedMarks (c .before .before .before .args .start) (c .before .before .check .result .marks)
+start-marked c = accepted-none _ _ _ (c .before .before .check .ensures) (c .enum-told .given .1)
+
+goal-marked : (c : tie.After-enum-told2) → AcceptedMarks (c .before .before .before .before .before .before .args .goal) (c .before .before .check2 .result .marks)
+goal-marked c = accepted-none _ _ _ (c .before .before .check2 .ensures) (c .enum-told2 .given .1)
+
+check-requires : tie.Need-check-requires
+check-requires c κs = search needs
+
+enum-known-start-verdict : tie.Need-enum-known-start-verdict
+enum-known-start-verdict c = search needs
+
+refused-requires : tie.Need-refused-requires
+refused-requires c κs = search needs
+
+returns : tie.Need-returns
+returns c =
+    let v = c .before .before .start-verdict .given in
+    refused-as _ _ _ _ (c .refused .ensures) (refused-one (v .0 .0) _ _ _ (c .before .before .before .before .check .ensures) (v .1))
+
+enum-told : tie.Need-enum-told
+enum-told c = search needs
+
+check-requires-2 : tie.Need-check-requires-2
+check-requires-2 c κs = search needs
+
+enum-known-goal-verdict : tie.Need-enum-known-goal-verdict
+enum-known-goal-verdict c = search needs
+
+refused-requires-2 : tie.Need-refused-requires-2
+refused-requires-2 c κs = search needs
+
+returns-2 : tie.Need-returns-2
+returns-2 c =
+    let v = c .before .before .goal-verdict .given in
+    refused-as _ _ _ _ (c .refused2 .ensures)
+    (start-marked (c .before .before .before .before .before) .0, refused-one (v .0 .0) _ _ _ (c .before .before .before .before .check2 .ensures) (v .1))
+
+enum-told-2 : tie.Need-enum-told-2
+enum-told-2 c = search needs
+
+same-frame-requires : tie.Need-same-frame-requires
+same-frame-requires c κs = search needs
+
+refused-requires-3 : tie.Need-refused-requires-3
+refused-requires-3 c κs = search needs
+
+returns-3 : tie.Need-returns-3
+returns-3 c =
+    let g = c .before .before .before in
+    let a = g .before .before .before .before .before .before .args in
+    refused-as _ _ _ _ (c .refused3 .ensures)
+    ((start-marked (g .before .before .before) .0, goal-marked g .0), frames-differ (a .start) (a .goal) (c .before .before .same-frame .ensures .not-so (not-true _ (c .before .if1 .taken))))
+
+same-requires : tie.Need-same-requires
+same-requires c κs = search needs
+
+refused-requires-4 : tie.Need-refused-requires-4
+refused-requires-4 c κs = search needs
+
+returns-4 : tie.Need-returns-4
+returns-4 c =
+    let g = c .before .before .before .before .before .before .before in
+    let f = g .before .before .before in
+    let a = f .before .before .before .args in
+    refused-as _ _ _ _ (c .refused4 .ensures) (
+      (start-marked f .0, goal-marked g .0),
+      (
+        frames-agree (a .start) (a .goal) (c .before .before .before .before .before .before .same-frame .ensures .so (not-false _ (c .before .before .before .before .before .if1 .left))),
+        marks-differ _ _ _ _ (start-marked f) (goal-marked g) (start-words (f .before .before)) (goal-words (g .before .before)) (c .before .before .same .ensures .not-so (not-true _ (c .before .if2 .taken))),
+      ),
+    )
+
+count-requires : tie.Need-count-requires
+count-requires c κs = search needs
+
+returns-5 : tie.Need-returns-5
+returns-5 c =
+    let g = c .before .before .before .before .before .before .before in
+    let f = g .before .before .before in
+    compared-as _ _ (c .count .result) _
+    (marks-agree _ _ _ _ (start-marked f) (goal-marked g) (c .before .before .before .before .before .before .same-frame .ensures .so (not-false _ (c .before .before .before .before .before .if1 .left)))
+    (c .before .before .same .ensures .so (not-false _ (c .before .if2 .left)))) (start-marked f) (c .count .ensures)
+
+pub compare-spec : {M : Type 1} → statement M
+compare-spec =
+    tie.close
+    (tie.spec
+    check-requires
+    enum-known-start-verdict
+    refused-requires
+    returns
+    enum-told
+    check-requires-2
+    enum-known-goal-verdict
+    refused-requires-2
+    returns-2
+    enum-told-2
+    same-frame-requires
+    refused-requires-3
+    returns-3
+    same-requires
+    refused-requires-4
+    returns-4
+    count-requires
+    returns-5)

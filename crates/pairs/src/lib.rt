@@ -1,0 +1,78 @@
+// Two stores together (document 01, "Which comes first"): "For two stores: the start, the goal, 8, 9".
+pub mod number;
+
+use marks::count;
+use marks::same;
+use store::Fault;
+use store::Store;
+use store::Verdict;
+ghost use mathlib.Core.Path.{_≡_};
+ghost use Rattle.stacks.specs.Deciding.{Decides};
+ghost use Rattle.store.specs.Slots.{SameFrame};
+ghost use Rattle.pairs.specs.Promises.{CompareIs};
+
+// Why two stores can't be compared: the start's own fault, the goal's, 8, 9.
+pub enum PairFault {
+    StartRefused(Fault),
+    GoalRefused(Fault),
+    Frames,
+    Cassettes,
+}
+
+// Whether two stores can be compared.
+pub enum Pair {
+    Comparable,
+    Refused(PairFault),
+}
+
+// The answer, and the count of cassettes where the stores can be compared, else 0.
+pub struct Compared {
+    pub pair: Pair,
+    pub n: usize,
+}
+
+// Whether two stores have the same shafts and depths.
+fn same_frame(s: Store, t: Store) -> bool
+    ensures { λ r. ⌜ Decides r (SameFrame s t) ⌝ }
+{
+    if s.m != t.m {
+        return false;
+    }
+    s.h == t.h
+}
+
+fn refused(f: PairFault) -> Compared
+    ensures { λ r. ⌜ r ≡ record { pair = Pair.Refused f; n = 0 } ⌝ }
+{
+    Compared {
+        pair: Pair::Refused(f),
+        n: 0,
+    }
+}
+
+pub fn compare(start: Store, goal: Store) -> Compared
+    ensures { λ r. ⌜ CompareIs start goal r ⌝ }
+{
+    let first = start.check();
+    let start_verdict = first.verdict;
+    if let Verdict::Refused(f) = start_verdict {
+        return refused(PairFault::StartRefused(f));
+    }
+    let second = goal.check();
+    let goal_verdict = second.verdict;
+    if let Verdict::Refused(f) = goal_verdict {
+        return refused(PairFault::GoalRefused(f));
+    }
+    if !same_frame(start, goal) {
+        return refused(PairFault::Frames);
+    }
+    let marks = first.marks;
+    let others = second.marks;
+    if !same(marks, others) {
+        return refused(PairFault::Cassettes);
+    }
+    Compared {
+        pair: Pair::Comparable,
+        n: count(marks),
+    }
+}

@@ -1,0 +1,4 @@
+pub mod Cursors
+pub mod Endings
+pub mod Parts
+pub mod States

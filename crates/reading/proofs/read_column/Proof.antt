@@ -1,0 +1,58 @@
+-- `read_column` meets its contract: a fault is kept; else 3, or the height set and then the rows.
+use native.Mathlib.Omega.{arith}
+use Rattle.reading.proofs.Parts.{column-kept, column-high, column-goes}
+use borrow.Author.Needs.{needs}
+use Rattle.reading.proofs.read_column.Statement.{statement}
+use Rattle.reading.proofs.read_column.Tie as tie
+
+returns : tie.Need-returns
+returns c =
+    let a = c .before .before .before .args in
+    column-kept (a .image .now) (a .h) (a .x) (a .heights .now) (a .slots .now) (a .marks .now) (a .c) (c .if1 .taken)
+
+cast-rows : tie.Need-cast-rows
+cast-rows c = search needs
+
+depth-of-requires : tie.Need-depth-of-requires
+depth-of-requires c κs = search needs
+
+stopped-requires : tie.Need-stopped-requires
+stopped-requires c κs = search needs
+
+returns-2 : tie.Need-returns-2
+returns-2 c =
+    let a = c .before .before .before .before .before .before .before .args in
+    rw (c .stopped .ensures)
+    (column-high (a .image .now) (a .h) (a .x) (a .heights .now) (a .slots .now) (a .marks .now) (a .c) (c .before .before .before .before .if1 .left)
+    (omega (arith, c .before .if2 .taken, c .before .before .depth-of .ensures)))
+
+element-write-heights : tie.Need-element-write-heights
+element-write-heights c = search needs
+
+cast-read-rows : tie.Need-cast-read-rows
+cast-read-rows c = search needs
+
+read-rows-requires : tie.Need-read-rows-requires
+read-rows-requires c κs =
+    let a = c .before .before .before .before .before .before .before .before .args in
+    (c .before .before .before .before .before .before .before .before .pre .0 .0, omega (arith, c .before .before .if2 .left, c .before .before .before .depth-of .ensures, c .before .before .before .before .before .before .before .before .pre .0 .1 (a .x)), c .before .before .before .before .before .before .before .before .pre .1 .0)
+
+returns-3 : tie.Need-returns-3
+returns-3 c =
+    let a = c .before .before .before .before .before .before .before .before .before .args in
+    column-goes (a .image .now) (a .h) (a .x) (a .heights .now) (a .slots .now) (a .marks .now) (a .c) (c .before .before .before .before .before .before .if1 .left)
+    (omega (arith, c .before .before .before .if2 .left, c .before .before .before .before .depth-of .ensures)) (c .before .before .before .before .before .before .before .before .before .pre .0 .1 (a .x)) (c .read-rows .ensures)
+
+pub read-column-spec : {M : Type 1} → statement M
+read-column-spec =
+    tie.close
+    (tie.spec
+    returns
+    cast-rows
+    depth-of-requires
+    stopped-requires
+    returns-2
+    element-write-heights
+    cast-read-rows
+    read-rows-requires
+    returns-3)

@@ -1,0 +1,56 @@
+-- `read_rows` meets its contract: after k turns the first k rows are read.
+use mathlib.Core.Path.{_≡_, subst}
+use Prim.Native.Nat.{ℕ, _-_, _≤_}
+use native.Mathlib.Omega.{arith}
+use Rattle.image.specs.Image.{cassetteWidth}
+use Rattle.reading.specs.Promises.{RowsRead}
+use Rattle.reading.proofs.Parts.{no-rows, row-more}
+use Rattle.reading.proofs.read_rows.Statement.{statement}
+use Rattle.reading.proofs.read_rows.Tie as tie
+
+abbrev Inv-loop : tie.InvT-loop
+Inv-loop image slots₀ marks₀ x rows c₀ k₀ slots marks c k = (k ≤ rows) × RowsRead image cassetteWidth x k slots₀ marks₀ c₀ slots marks c
+
+abbrev μ-loop : tie.MeasureT-loop
+μ-loop image slots₀ marks₀ x rows c₀ k₀ slots marks c k = rows - k
+
+loop-holds : tie.Need-loop-holds Inv-loop μ-loop
+loop-holds c = let a = c .before .args in (omega arith, no-rows (a .image .now) cassetteWidth (a .x) (a .slots .now) (a .marks .now) (a .start))
+
+next-field-requires : tie.Need-next-field-requires Inv-loop μ-loop
+next-field-requires c κs = let k = c .before .before .before .loop in (omega arith, omega arith, omega (arith, c .before .before .loop-test .taken, c .before .before .before .before .before .pre .1, c .before .before .before .before .before .pre .2, k .inv .1 .reads 0 0 (k .slots) .within))
+
+take-cassette-requires : tie.Need-take-cassette-requires Inv-loop μ-loop
+take-cassette-requires c κs = (c .before .before .before .before .before .before .pre .0, omega (arith, c .before .before .before .loop-test .taken, c .before .before .before .before .before .before .pre .1), c .next-field .ensures .small)
+
+add-k : tie.Need-add-k Inv-loop μ-loop
+add-k c = omega (arith, c .before .before .before .before .loop-test .taken)
+
+loop-less : tie.Need-loop-less Inv-loop μ-loop
+loop-less c = omega (arith, c .before .before .before .before .loop-test .taken)
+
+loop-again : tie.Need-loop-again Inv-loop μ-loop
+loop-again c =
+    let k = c .before .before .before .before .before .loop in
+    (omega (arith, c .before .before .before .before .loop-test .taken), row-more (k .inv .1) (c .before .next-field .ensures) (c .take-cassette .ensures))
+
+returns : tie.Need-returns Inv-loop μ-loop
+returns c =
+    let a = c .before .before .before .args in
+    let k = c .before .loop in
+    let e : k .k ≡ a .rows = omega (arith, c .loop-test .left, k .inv .0) in
+    subst (λ (n : ℕ). RowsRead (a .image .now) cassetteWidth (a .x) n (a .slots .now) (a .marks .now) (a .start) (k .slots) (k .marks) (k .c)) e (k .inv .1)
+
+pub read-rows-spec : {M : Type 1} → statement M
+read-rows-spec =
+    tie.close
+    (tie.spec
+    Inv-loop
+    μ-loop
+    loop-holds
+    next-field-requires
+    take-cassette-requires
+    add-k
+    loop-less
+    loop-again
+    returns)
