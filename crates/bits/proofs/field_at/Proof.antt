@@ -12,23 +12,8 @@ use Rattle.bits.proofs.Widths.{field-lt}
 use Rattle.bits.proofs.field_at.Statement.{statement}
 use Rattle.bits.proofs.field_at.Tie as tie
 
-add-if1 : tie.Need-add-if1
-add-if1 c = search needs
-
-add-if1-2 : tie.Need-add-if1-2
-add-if1-2 c = search needs
-
-add-if1-3 : tie.Need-add-if1-3
-add-if1-3 c = search needs
-
 returns : tie.Need-returns
 returns c = let a = c .before .before .args in field-missing (a .s .now) (a .at) (a .w) (omega arith) (omega arith)
-
-three-bytes-requires : tie.Need-three-bytes-requires
-three-bytes-requires c κs = search needs
-
-cut-requires : tie.Need-cut-requires
-cut-requires c κs = search needs
 
 value : (c : tie.After-cut) → let a = c .before .before .before .before .args in c .cut .result ≡ field (drop (a .at) (bitsOf (a .s .now))) (a .w)
 value c =
@@ -46,11 +31,11 @@ pub field-at-spec : {M : Type 1} → statement M
 field-at-spec =
     tie.close
     (tie.spec
-    add-if1
-    add-if1-2
-    add-if1-3
+    (λ c. search needs)
+    (λ c. search needs)
+    (λ c. search needs)
     returns
-    three-bytes-requires
-    cut-requires
+    (λ c κs. search needs)
+    (λ c κs. search needs)
     cast-t14
     returns-2)

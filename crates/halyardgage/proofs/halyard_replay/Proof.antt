@@ -16,50 +16,17 @@ start c = stands _ (c .before .before .read .ensures) (c .before .read-number .e
 bytes : (c : tie.Else1) (i : ℕ) → getD (c .before .before .before .before .before .before .args .image .now) i 0 < 256
 bytes c i = omega (arith, c .before .before .before .before .before .shared-slice-known .given i)
 
-read-requires : tie.Need-read-requires
-read-requires c κs = search needs
-
-read-number-requires : tie.Need-read-number-requires
-read-number-requires c κs = search needs
-
-refused-requires : tie.Need-refused-requires
-refused-requires c κs = search needs
-
-same-length : tie.Need-same-length
-same-length c = search needs
-
 returns : tie.Need-returns
 returns c =
     let r = c .before .before in
     let w = r .before .before in
     replay-refused (r .refused .ensures) (number-read _ (w .before .before .read .ensures) (w .before .read-number .ensures)) (w .if1 .taken)
 
-refused-requires-2 : tie.Need-refused-requires-2
-refused-requires-2 c κs = search needs
-
-same-length-2 : tie.Need-same-length-2
-same-length-2 c = search needs
-
 returns-2 : tie.Need-returns-2
 returns-2 c =
     let r = c .before .before in
     let w = r .before .before in
     replay-little-space (bytes (w .before)) (start (w .before)) (r .refused2 .ensures) (w .if2 .taken)
-
-replay-requires : tie.Need-replay-requires
-replay-requires c κs = search needs
-
-write-requires : tie.Need-write-requires
-write-requires c κs = search needs
-
-end-number-requires : tie.Need-end-number-requires
-end-number-requires c κs = search needs
-
-answer-requires : tie.Need-answer-requires
-answer-requires c κs = search needs
-
-same-length-3 : tie.Need-same-length-3
-same-length-3 c = search needs
 
 returns-3 : tie.Need-returns-3
 returns-3 c =
@@ -72,17 +39,17 @@ pub halyard-replay-spec : {M : Type 1} → statement M
 halyard-replay-spec =
     tie.close
     (tie.spec
-    read-requires
-    read-number-requires
-    refused-requires
-    same-length
+    (λ c κs. search needs)
+    (λ c κs. search needs)
+    (λ c κs. search needs)
+    (λ c. search needs)
     returns
-    refused-requires-2
-    same-length-2
+    (λ c κs. search needs)
+    (λ c. search needs)
     returns-2
-    replay-requires
-    write-requires
-    end-number-requires
-    answer-requires
-    same-length-3
+    (λ c κs. search needs)
+    (λ c κs. search needs)
+    (λ c κs. search needs)
+    (λ c κs. search needs)
+    (λ c. search needs)
     returns-3)

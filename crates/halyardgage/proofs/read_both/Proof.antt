@@ -5,20 +5,8 @@ use borrow.Author.Needs.{needs}
 use Rattle.halyardgage.proofs.read_both.Statement.{statement}
 use Rattle.halyardgage.proofs.read_both.Tie as tie
 
-read-requires : tie.Need-read-requires
-read-requires c κs = search needs
-
-read-number-requires : tie.Need-read-number-requires
-read-number-requires c κs = search needs
-
 returns : tie.Need-returns
 returns c = start-refused (number-read _ (c .before .before .before .read .ensures) (c .before .before .read-number .ensures)) (c .if1 .taken)
-
-read-requires-2 : tie.Need-read-requires-2
-read-requires-2 c κs = search needs
-
-read-number-requires-2 : tie.Need-read-number-requires-2
-read-number-requires-2 c κs = search needs
 
 returns-2 : tie.Need-returns-2
 returns-2 c =
@@ -29,9 +17,9 @@ pub read-both-spec : {M : Type 1} → statement M
 read-both-spec =
     tie.close
     (tie.spec
-    read-requires
-    read-number-requires
+    (λ c κs. search needs)
+    (λ c κs. search needs)
     returns
-    read-requires-2
-    read-number-requires-2
+    (λ c κs. search needs)
+    (λ c κs. search needs)
     returns-2)

@@ -9,9 +9,6 @@ make-two-requires c κs =
     let p = c .before .before .before .before .pre in
     (p .0, ((omega arith, p .1 .0), p .1 .1 .1))
 
-same-length : tie.Need-same-length
-same-length c = search needs
-
 returns : tie.Need-returns
 returns c = c .before .before .make-two .ensures
 
@@ -20,13 +17,10 @@ make-three-requires c κs =
     let p = c .before .before .before .before .pre in
     (p .0, ((omega arith, p .1 .0), p .1 .1))
 
-same-length-2 : tie.Need-same-length-2
-same-length-2 c = search needs
-
 returns-2 : tie.Need-returns-2
 returns-2 c = c .before .before .make-three .ensures
 
 pub make-spec : {M : Type 1} → statement M
 make-spec =
     tie.close
-    (tie.spec make-two-requires same-length returns make-three-requires same-length-2 returns-2)
+    (tie.spec make-two-requires (λ c. search needs) returns make-three-requires (λ c. search needs) returns-2)

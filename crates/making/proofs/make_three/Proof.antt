@@ -17,9 +17,6 @@ hints-of-requires c κs = let t = c .before .before .before .before .before .bef
 play-all-requires : tie.Need-play-all-requires
 play-all-requires c κs = let t = c .before .before .before .before .before .before .before .before .before .before .before .before .before .before .before .before .before in play-ready (t .args .start) (t .args .goal) (t .pre .0) _ (empty-counted _ _ _ (t .pre .1 .1 .0) (c .before .before .before .before .before .before .before .before .before .before .before .before .before .before .before .empty-slots .ensures)) _ (c .before .before .before .before .before .before .before .before .agreeing .ensures) (t .args .out .now) (t .pre .1 .0 .0) (t .pre .1 .0 .1) (t .pre .1 .1 .1)
 
-same-length : tie.Need-same-length
-same-length c = search needs
-
 returns : tie.Need-returns
 returns c = let t = c .before .before .before .before .before .before .before .before .before .before .before .before .before .before .before .before .before .before .before .before in made (t .args .start) (t .args .goal) (t .pre .0) _ (empty-counted _ _ _ (t .pre .1 .1 .0) (c .before .before .before .before .before .before .before .before .before .before .before .before .before .before .before .before .before .before .empty-slots .ensures)) _ (c .before .before .before .before .before .before .before .before .before .before .before .agreeing .ensures) (c .before .before .play-all .ensures)
 
@@ -31,5 +28,5 @@ make-three-spec =
     agreeing-requires
     hints-of-requires
     play-all-requires
-    same-length
+    (λ c. search needs)
     returns)

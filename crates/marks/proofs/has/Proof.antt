@@ -10,17 +10,8 @@ use Rattle.marks.specs.Marking.{marked}
 use Rattle.marks.proofs.has.Statement.{statement}
 use Rattle.marks.proofs.has.Tie as tie
 
-cast-i : tie.Need-cast-i
-cast-i c = search needs
-
 cast-k : tie.Need-cast-k
 cast-k c = let h : bitAnd (c .args .c) 63 < 64 = mask-lt (c .args .c) 6 in omega arith
-
-mul-result : tie.Need-mul-result
-mul-result c = search needs
-
-element-copy-out-result : tie.Need-element-copy-out-result
-element-copy-out-result c = search needs
 
 shr-result : tie.Need-shr-result
 shr-result c = mask-lt (c .before .args .c) 6
@@ -32,4 +23,4 @@ returns c =
     rw e (ap (λ (n : ℕ). eqb n 1) (and-mask (getD (c .before .args .words .now) (c .before .args .c / 64) 0 / 2 ^ (c .before .args .c % 64)) 1))
 
 pub has-spec : {M : Type 1} → statement M
-has-spec = tie.close (tie.spec cast-i cast-k mul-result element-copy-out-result shr-result returns)
+has-spec = tie.close (tie.spec (λ c. search needs) cast-k (λ c. search needs) (λ c. search needs) shr-result returns)

@@ -10,23 +10,11 @@ use Rattle.marks.proofs.Words.{bit-lt}
 use Rattle.marks.proofs.mark.Statement.{statement}
 use Rattle.marks.proofs.mark.Tie as tie
 
-cast-i : tie.Need-cast-i
-cast-i c = search needs
-
 cast-k : tie.Need-cast-k
 cast-k c = let h : bitAnd (c .args .c) 63 < 64 = mask-lt (c .args .c) 6 in omega arith
 
-word-requires : tie.Need-word-requires
-word-requires c κs = search needs
-
 shl-words : tie.Need-shl-words
 shl-words c = mask-lt (c .before .before .args .c) 6
-
-mul-words : tie.Need-mul-words
-mul-words c = search needs
-
-element-write-words : tie.Need-element-write-words
-element-write-words c = search needs
 
 returns : tie.Need-returns
 unfolding withMark
@@ -39,4 +27,4 @@ returns c =
 pub mark-spec : {M : Type 1} → statement M
 mark-spec =
     tie.close
-    (tie.spec cast-i cast-k word-requires shl-words mul-words element-write-words returns)
+    (tie.spec (λ c. search needs) cast-k (λ c κs. search needs) shl-words (λ c. search needs) (λ c. search needs) returns)

@@ -12,16 +12,10 @@ use Rattle.marks.proofs.take.Tie as tie
 returns : tie.Need-returns
 returns c = zero-is (c .before .args .words .now) (c .before .args .c) (c .if1 .taken)
 
-stands-already-requires : tie.Need-stands-already-requires
-stands-already-requires c κs = search needs
-
 returns-2 : tie.Need-returns-2
 returns-2 c =
     twice-is (c .before .before .before .before .args .words .now) (c .before .before .before .before .args .c) (c .before .before .before .if1 .left) (c .before .before .before .before .fits .c .fits)
     (sym (c .before .stands-already .ensures) ∙ c .if2 .taken)
-
-mark-requires : tie.Need-mark-requires
-mark-requires c κs = search needs
 
 returns-3 : tie.Need-returns-3
 returns-3 c =
@@ -30,4 +24,4 @@ returns-3 c =
     (sym (c .before .before .before .stands-already .ensures) ∙ c .before .before .if2 .left))
 
 pub take-spec : {M : Type 1} → statement M
-take-spec = tie.close (tie.spec returns stands-already-requires returns-2 mark-requires returns-3)
+take-spec = tie.close (tie.spec returns (λ c κs. search needs) returns-2 (λ c κs. search needs) returns-3)

@@ -9,15 +9,6 @@ use Rattle.moves.specs.Written.{written}
 use Rattle.moves.proofs.put_shift.Statement.{statement}
 use Rattle.moves.proofs.put_shift.Tie as tie
 
-pack-requires : tie.Need-pack-requires
-pack-requires c κs = search needs
-
-put-many-requires : tie.Need-put-many-requires
-put-many-requires c κs = search needs
-
-same-length : tie.Need-same-length
-same-length c = search needs
-
 returns : tie.Need-returns
 returns c =
     let d = c .before .before in
@@ -26,4 +17,4 @@ returns c =
     (d .put-many .ensures .0, d .put-many .ensures .1 ∙ ap (λ (b : ℕ). written (a .out .now) (a .at) (replicate (a .k) b)) e)
 
 pub put-shift-spec : {M : Type 1} → statement M
-put-shift-spec = tie.close (tie.spec pack-requires put-many-requires same-length returns)
+put-shift-spec = tie.close (tie.spec (λ c κs. search needs) (λ c κs. search needs) (λ c. search needs) returns)

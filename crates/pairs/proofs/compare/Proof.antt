@@ -26,31 +26,10 @@ start-marked c = accepted-none _ _ _ (c .before .before .check .ensures) (c .enu
 goal-marked : (c : tie.After-enum-told2) → AcceptedMarks (c .before .before .before .before .before .before .args .goal) (c .before .before .check2 .result .marks)
 goal-marked c = accepted-none _ _ _ (c .before .before .check2 .ensures) (c .enum-told2 .given .1)
 
-check-requires : tie.Need-check-requires
-check-requires c κs = search needs
-
-enum-known-start-verdict : tie.Need-enum-known-start-verdict
-enum-known-start-verdict c = search needs
-
-refused-requires : tie.Need-refused-requires
-refused-requires c κs = search needs
-
 returns : tie.Need-returns
 returns c =
     let v = c .before .before .start-verdict .given in
     refused-as _ _ _ _ (c .refused .ensures) (refused-one (v .0 .0) _ _ _ (c .before .before .before .before .check .ensures) (v .1))
-
-enum-told : tie.Need-enum-told
-enum-told c = search needs
-
-check-requires-2 : tie.Need-check-requires-2
-check-requires-2 c κs = search needs
-
-enum-known-goal-verdict : tie.Need-enum-known-goal-verdict
-enum-known-goal-verdict c = search needs
-
-refused-requires-2 : tie.Need-refused-requires-2
-refused-requires-2 c κs = search needs
 
 returns-2 : tie.Need-returns-2
 returns-2 c =
@@ -58,27 +37,12 @@ returns-2 c =
     refused-as _ _ _ _ (c .refused2 .ensures)
     (start-marked (c .before .before .before .before .before) .0, refused-one (v .0 .0) _ _ _ (c .before .before .before .before .check2 .ensures) (v .1))
 
-enum-told-2 : tie.Need-enum-told-2
-enum-told-2 c = search needs
-
-same-frame-requires : tie.Need-same-frame-requires
-same-frame-requires c κs = search needs
-
-refused-requires-3 : tie.Need-refused-requires-3
-refused-requires-3 c κs = search needs
-
 returns-3 : tie.Need-returns-3
 returns-3 c =
     let g = c .before .before .before in
     let a = g .before .before .before .before .before .before .args in
     refused-as _ _ _ _ (c .refused3 .ensures)
     ((start-marked (g .before .before .before) .0, goal-marked g .0), frames-differ (a .start) (a .goal) (c .before .before .same-frame .ensures .not-so (not-true _ (c .before .if1 .taken))))
-
-same-requires : tie.Need-same-requires
-same-requires c κs = search needs
-
-refused-requires-4 : tie.Need-refused-requires-4
-refused-requires-4 c κs = search needs
 
 returns-4 : tie.Need-returns-4
 returns-4 c =
@@ -93,9 +57,6 @@ returns-4 c =
       ),
     )
 
-count-requires : tie.Need-count-requires
-count-requires c κs = search needs
-
 returns-5 : tie.Need-returns-5
 returns-5 c =
     let g = c .before .before .before .before .before .before .before in
@@ -108,21 +69,21 @@ pub compare-spec : {M : Type 1} → statement M
 compare-spec =
     tie.close
     (tie.spec
-    check-requires
-    enum-known-start-verdict
-    refused-requires
+    (λ c κs. search needs)
+    (λ c. search needs)
+    (λ c κs. search needs)
     returns
-    enum-told
-    check-requires-2
-    enum-known-goal-verdict
-    refused-requires-2
+    (λ c. search needs)
+    (λ c κs. search needs)
+    (λ c. search needs)
+    (λ c κs. search needs)
     returns-2
-    enum-told-2
-    same-frame-requires
-    refused-requires-3
+    (λ c. search needs)
+    (λ c κs. search needs)
+    (λ c κs. search needs)
     returns-3
-    same-requires
-    refused-requires-4
+    (λ c κs. search needs)
+    (λ c κs. search needs)
     returns-4
-    count-requires
+    (λ c κs. search needs)
     returns-5)

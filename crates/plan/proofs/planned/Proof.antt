@@ -5,16 +5,10 @@ use Rattle.planner.proofs.PlanExact.{space-suffices}
 use Rattle.plan.proofs.planned.Statement.{statement}
 use Rattle.plan.proofs.planned.Tie as tie
 
-make-list-requires : tie.Need-make-list-requires
-make-list-requires c κs = search needs
-
-same-length : tie.Need-same-length
-same-length c = search needs
-
 returns : tie.Need-returns
 returns c =
     let m = c .before .before in
     space-suffices _ _ _ _ _ (m .make-list .ensures) (omega arith)
 
 pub planned-spec : {M : Type 1} → statement M
-planned-spec = tie.close (tie.spec make-list-requires same-length returns)
+planned-spec = tie.close (tie.spec (λ c κs. search needs) (λ c. search needs) returns)

@@ -3,8 +3,5 @@ use borrow.Author.Needs.{needs}
 use Rattle.planner.proofs.listed.Statement.{statement}
 use Rattle.planner.proofs.listed.Tie as tie
 
-returns : tie.Need-returns
-returns c = search needs
-
 pub listed-spec : {M : Type 1} → statement M
-listed-spec = tie.close (tie.spec returns)
+listed-spec = tie.close (tie.spec (λ c. search needs))

@@ -29,18 +29,6 @@ space c = space-counted _ _ _ (counted (c .before)) (c .list-space .ensures)
 enough : (c : tie.Else1) → listSpace (entry (c .before .before) .args .start) ≤ length (entry (c .before .before) .args .out .now)
 enough c = omega (arith, space (c .before), c .if1 .left)
 
-compare-requires : tie.Need-compare-requires
-compare-requires c κs = search needs
-
-enum-known-pair : tie.Need-enum-known-pair
-enum-known-pair c = search needs
-
-refused-requires : tie.Need-refused-requires
-refused-requires c κs = search needs
-
-same-length : tie.Need-same-length
-same-length c = search needs
-
 returns : tie.Need-returns
 returns c =
     let r = c .before .before in
@@ -49,19 +37,10 @@ returns c =
     refused-as (a .start) (a .goal) (a .out .now) _ (r .refused .ensures)
     (faulty-by (a .start) (a .goal) _ _ (p .before .before .compare .ensures) (p .pair .given .1)) (λ u. u)
 
-enum-told : tie.Need-enum-told
-enum-told c = search needs
-
 list-space-requires : tie.Need-list-space-requires
 list-space-requires c κs =
     let f = counted-few _ _ (both c) in
     ((f .0, f .1), omega (arith, counted c, f .2))
-
-refused-requires-2 : tie.Need-refused-requires-2
-refused-requires-2 c κs = search needs
-
-same-length-2 : tie.Need-same-length-2
-same-length-2 c = search needs
 
 returns-2 : tie.Need-returns-2
 returns-2 c =
@@ -75,12 +54,6 @@ rule-holds-requires : tie.Need-rule-holds-requires
 rule-holds-requires c κs =
     let d = c .before .before in
     (both d, counted d)
-
-refused-requires-3 : tie.Need-refused-requires-3
-refused-requires-3 c κs = search needs
-
-same-length-3 : tie.Need-same-length-3
-same-length-3 c = search needs
 
 returns-3 : tie.Need-returns-3
 returns-3 c =
@@ -99,12 +72,6 @@ make-requires c κs =
     let d = e .before .before in
     (both d, (r .before .rule-holds .ensures .so (not-false _ (r .if2 .left)), (counted d, enough e)))
 
-listed-requires : tie.Need-listed-requires
-listed-requires c κs = search needs
-
-same-length-4 : tie.Need-same-length-4
-same-length-4 c = search needs
-
 returns-4 : tie.Need-returns-4
 returns-4 c =
     let m = c .before .before .before in
@@ -115,21 +82,21 @@ pub make-list-spec : {M : Type 1} → statement M
 make-list-spec =
     tie.close
     (tie.spec
-    compare-requires
-    enum-known-pair
-    refused-requires
-    same-length
+    (λ c κs. search needs)
+    (λ c. search needs)
+    (λ c κs. search needs)
+    (λ c. search needs)
     returns
-    enum-told
+    (λ c. search needs)
     list-space-requires
-    refused-requires-2
-    same-length-2
+    (λ c κs. search needs)
+    (λ c. search needs)
     returns-2
     rule-holds-requires
-    refused-requires-3
-    same-length-3
+    (λ c κs. search needs)
+    (λ c. search needs)
     returns-3
     make-requires
-    listed-requires
-    same-length-4
+    (λ c κs. search needs)
+    (λ c. search needs)
     returns-4)

@@ -9,17 +9,8 @@ use Rattle.reading.proofs.finished.Tie as tie
 returns : tie.Need-returns
 returns c = let a = c .before .before .before .args in end-kept (a .image .now) (a .n) (a .c) (c .if1 .taken)
 
-stopped-requires : tie.Need-stopped-requires
-stopped-requires c κs = search needs
-
 returns-2 : tie.Need-returns-2
 returns-2 c = let a = c .before .before .before .before .before .args in rw (c .stopped .ensures) (too-many (a .image .now) (a .n) (a .c) (c .before .before .if1 .left) (c .before .if2 .taken))
-
-padded-requires : tie.Need-padded-requires
-padded-requires c κs = search needs
-
-stopped-requires-2 : tie.Need-stopped-requires-2
-stopped-requires-2 c κs = search needs
 
 returns-3 : tie.Need-returns-3
 returns-3 c =
@@ -37,9 +28,9 @@ finished-spec =
     tie.close
     (tie.spec
     returns
-    stopped-requires
+    (λ c κs. search needs)
     returns-2
-    padded-requires
-    stopped-requires-2
+    (λ c κs. search needs)
+    (λ c κs. search needs)
     returns-3
     returns-4)

@@ -12,23 +12,8 @@ returns c = let a = c .before .before .args in nothing-left (a .image .now) (a .
 returns-2 : tie.Need-returns-2
 returns-2 c = let a = c .before .before .before .args in bytes-left (a .image .now) (a .at) (omega arith)
 
-add-if3 : tie.Need-add-if3
-add-if3 c = search needs
-
 returns-3 : tie.Need-returns-3
 returns-3 c = let a = c .before .before .before .before .args in bytes-left (a .image .now) (a .at) (omega arith)
-
-sub-read-field : tie.Need-sub-read-field
-sub-read-field c = search needs
-
-read-field-requires : tie.Need-read-field-requires
-read-field-requires c κs = search needs
-
-enum-told : tie.Need-enum-told
-enum-told c = search needs
-
-enum-known-v : tie.Need-enum-known-v
-enum-known-v c = search needs
 
 returns-4 : tie.Need-returns-4
 returns-4 c = let a = c .before .before .before .before .before .before .before .args in absurd (not-missing (a .image .now) (a .at) _ (omega arith) (sym (c .before .before .read-field .ensures) ∙ c .enum-told .given .1))
@@ -42,11 +27,11 @@ padded-spec =
     (tie.spec
     returns
     returns-2
-    add-if3
+    (λ c. search needs)
     returns-3
-    sub-read-field
-    read-field-requires
-    enum-told
-    enum-known-v
+    (λ c. search needs)
+    (λ c κs. search needs)
+    (λ c. search needs)
+    (λ c. search needs)
     returns-4
     returns-5)

@@ -5,12 +5,6 @@ use borrow.Author.Needs.{needs}
 use Rattle.reading.proofs.read.Statement.{statement}
 use Rattle.reading.proofs.read.Tie as tie
 
-read-head-requires : tie.Need-read-head-requires
-read-head-requires c κs = search needs
-
-read-body-requires : tie.Need-read-body-requires
-read-body-requires c κs = search needs
-
 answer-of-requires : tie.Need-answer-of-requires
 answer-of-requires c κs = fault-few (c .before .before .before .before .before .args .image .now) (c .read-body .result) _ (c .before .before .before .read-head .ensures .same ∙ c .read-body .ensures .same)
 
@@ -22,4 +16,4 @@ returns-2 c = read-accepted (c .before .before .before .before .before .before .
 
 pub read-spec : {M : Type 1} → statement M
 read-spec =
-    tie.close (tie.spec read-head-requires read-body-requires answer-of-requires returns returns-2)
+    tie.close (tie.spec (λ c κs. search needs) (λ c κs. search needs) answer-of-requires returns returns-2)

@@ -10,27 +10,12 @@ returns c =
     let a = c .before .before .before .args in
     column-kept (a .image .now) (a .h) (a .x) (a .heights .now) (a .slots .now) (a .marks .now) (a .c) (c .if1 .taken)
 
-cast-rows : tie.Need-cast-rows
-cast-rows c = search needs
-
-depth-of-requires : tie.Need-depth-of-requires
-depth-of-requires c κs = search needs
-
-stopped-requires : tie.Need-stopped-requires
-stopped-requires c κs = search needs
-
 returns-2 : tie.Need-returns-2
 returns-2 c =
     let a = c .before .before .before .before .before .before .before .args in
     rw (c .stopped .ensures)
     (column-high (a .image .now) (a .h) (a .x) (a .heights .now) (a .slots .now) (a .marks .now) (a .c) (c .before .before .before .before .if1 .left)
     (omega (arith, c .before .if2 .taken, c .before .before .depth-of .ensures)))
-
-element-write-heights : tie.Need-element-write-heights
-element-write-heights c = search needs
-
-cast-read-rows : tie.Need-cast-read-rows
-cast-read-rows c = search needs
 
 read-rows-requires : tie.Need-read-rows-requires
 read-rows-requires c κs =
@@ -48,11 +33,11 @@ read-column-spec =
     tie.close
     (tie.spec
     returns
-    cast-rows
-    depth-of-requires
-    stopped-requires
+    (λ c. search needs)
+    (λ c κs. search needs)
+    (λ c κs. search needs)
     returns-2
-    element-write-heights
-    cast-read-rows
+    (λ c. search needs)
+    (λ c. search needs)
     read-rows-requires
     returns-3)

@@ -11,36 +11,6 @@ use Rattle.reading.proofs.take_cassette.Tie as tie
 returns : tie.Need-returns
 returns c = let a = c .before .before .args in cassette-kept (a .x) (a .k) (a .slots .now) (a .marks .now) (a .c) (c .if1 .taken)
 
-cast-v : tie.Need-cast-v
-cast-v c = search needs
-
-take-requires : tie.Need-take-requires
-take-requires c κs = search needs
-
-enum-told : tie.Need-enum-told
-enum-told c = search needs
-
-mul-slots : tie.Need-mul-slots
-mul-slots c = search needs
-
-add-slots : tie.Need-add-slots
-add-slots c = search needs
-
-element-write-slots : tie.Need-element-write-slots
-element-write-slots c = search needs
-
-enum-told-2 : tie.Need-enum-told-2
-enum-told-2 c = search needs
-
-stopped-requires : tie.Need-stopped-requires
-stopped-requires c κs = search needs
-
-enum-told-3 : tie.Need-enum-told-3
-enum-told-3 c = search needs
-
-stopped-requires-2 : tie.Need-stopped-requires-2
-stopped-requires-2 c κs = search needs
-
 returns-2 : tie.Need-returns-2
 returns-2 c =
     let a = c .before .before .before .before .before .before .before .args in
@@ -68,16 +38,16 @@ take-cassette-spec =
     tie.close
     (tie.spec
     returns
-    cast-v
-    take-requires
-    enum-told
-    mul-slots
-    add-slots
-    element-write-slots
-    enum-told-2
-    stopped-requires
-    enum-told-3
-    stopped-requires-2
+    (λ c. search needs)
+    (λ c κs. search needs)
+    (λ c. search needs)
+    (λ c. search needs)
+    (λ c. search needs)
+    (λ c. search needs)
+    (λ c. search needs)
+    (λ c κs. search needs)
+    (λ c. search needs)
+    (λ c κs. search needs)
     returns-2
     returns-3
     returns-4)

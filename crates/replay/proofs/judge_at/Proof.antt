@@ -6,27 +6,6 @@ use borrow.Author.Needs.{needs}
 use Rattle.replay.proofs.judge_at.Statement.{statement}
 use Rattle.replay.proofs.judge_at.Tie as tie
 
-cast-height-at : tie.Need-cast-height-at
-cast-height-at c = search needs
-
-height-at-requires : tie.Need-height-at-requires
-height-at-requires c κs = search needs
-
-cast-height-at-2 : tie.Need-cast-height-at-2
-cast-height-at-2 c = search needs
-
-height-at-requires-2 : tie.Need-height-at-requires-2
-height-at-requires-2 c κs = search needs
-
-cast-depth-of : tie.Need-cast-depth-of
-cast-depth-of c = search needs
-
-depth-of-requires : tie.Need-depth-of-requires
-depth-of-requires c κs = search needs
-
-judge-requires : tie.Need-judge-requires
-judge-requires c κs = search needs
-
 returns : tie.Need-returns
 returns c =
     let a = c .before .before .before .before .before .before .before .args in
@@ -39,11 +18,11 @@ pub judge-at-spec : {M : Type 1} → statement M
 judge-at-spec =
     tie.close
     (tie.spec
-    cast-height-at
-    height-at-requires
-    cast-height-at-2
-    height-at-requires-2
-    cast-depth-of
-    depth-of-requires
-    judge-requires
+    (λ c. search needs)
+    (λ c κs. search needs)
+    (λ c. search needs)
+    (λ c κs. search needs)
+    (λ c. search needs)
+    (λ c κs. search needs)
+    (λ c κs. search needs)
     returns)

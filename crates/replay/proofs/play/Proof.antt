@@ -25,20 +25,8 @@ abbrev μ-loop : tie.MeasureT-loop
 loop-holds : tie.Need-loop-holds Inv-loop μ-loop
 loop-holds c = (omega arith, c .before .pre, goes-start _ _)
 
-shared-slice-read-b : tie.Need-shared-slice-read-b Inv-loop μ-loop
-shared-slice-read-b c = search needs
-
-left-of-requires : tie.Need-left-of-requires Inv-loop μ-loop
-left-of-requires c κs = search needs
-
-entered-of-requires : tie.Need-entered-of-requires Inv-loop μ-loop
-entered-of-requires c κs = search needs
-
 judge-at-requires : tie.Need-judge-at-requires Inv-loop μ-loop
 judge-at-requires c κs = (omega (arith, c .before .before .left-of .ensures, c .before .before .before .shared-slice-known2 .given (c .before .before .before .before .before .loop .count)), omega (arith, c .before .entered-of .ensures))
-
-enum-known-r : tie.Need-enum-known-r Inv-loop μ-loop
-enum-known-r c = search needs
 
 returns : tie.Need-returns Inv-loop μ-loop
 unfolding liftRefusal
@@ -49,21 +37,12 @@ returns c =
     goes-stopped _ t _ _ (c .before .before .before .before .before .before .before .before .before .loop .inv .2) (g .0 .0) (c .before .before .before .before .before .before .before .before .loop-test .taken)
     (sym (ap judgedNumber (g .1)) ∙ c .before .before .before .judge-at .ensures .has ∙ same-lift t _ (c .before .before .before .before .before .before .left-of .ensures) (c .before .before .before .before .before .entered-of .ensures))
 
-enum-told : tie.Need-enum-told Inv-loop μ-loop
-enum-told c = search needs
-
 carry-requires : tie.Need-carry-requires Inv-loop μ-loop
 unfolding liftRefusal
 carry-requires c κs =
     let a = c .before .before .before .before .before .before .before .before .before .before .before .before .args in
     let t : Store = held (a .m) (a .h) (c .before .before .before .before .before .before .before .before .before .before .loop .heights) (c .before .before .before .before .before .before .before .before .before .before .loop .slots) in
     can-carry t _ _ (c .before .before .before .before .before .before .before .before .before .before .loop .inv .1) (none-allowed t _ _ (sym (c .before .before .before .before .judge-at .ensures .has) ∙ ap judgedNumber (c .before .before .enum-told .given .1)))
-
-add-count : tie.Need-add-count Inv-loop μ-loop
-add-count c = search needs
-
-loop-less : tie.Need-loop-less Inv-loop μ-loop
-loop-less c = search needs
 
 loop-again : tie.Need-loop-again Inv-loop μ-loop
 unfolding liftRefusal
@@ -87,15 +66,15 @@ play-spec =
     Inv-loop
     μ-loop
     loop-holds
-    shared-slice-read-b
-    left-of-requires
-    entered-of-requires
+    (λ c. search needs)
+    (λ c κs. search needs)
+    (λ c κs. search needs)
     judge-at-requires
-    enum-known-r
+    (λ c. search needs)
     returns
-    enum-told
+    (λ c. search needs)
     carry-requires
-    add-count
-    loop-less
+    (λ c. search needs)
+    (λ c. search needs)
     loop-again
     returns-2)

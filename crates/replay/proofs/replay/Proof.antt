@@ -6,19 +6,10 @@ use borrow.Author.Needs.{needs}
 use Rattle.replay.proofs.replay.Statement.{statement}
 use Rattle.replay.proofs.replay.Tie as tie
 
-check-requires : tie.Need-check-requires
-check-requires c κs = search needs
-
-enum-known-verdict : tie.Need-enum-known-verdict
-enum-known-verdict c = search needs
-
 returns : tie.Need-returns
 returns c =
     let g = c .before .verdict .given in
     replay-refused (c .before .before .before .before .before .args .s) (c .before .before .before .before .before .args .list .now) (g .0 .0) (refused-one (g .0 .0) _ _ _ (c .before .before .before .check .ensures) (g .1))
-
-enum-told : tie.Need-enum-told
-enum-told c = search needs
 
 play-requires : tie.Need-play-requires
 play-requires c κs = accepted-shaped (c .before .before .before .before .before .before .before .before .args .s) (accepted-none _ _ _ (c .before .before .before .before .before .before .check .ensures) (c .before .before .before .before .enum-told .given .1) .0)
@@ -30,4 +21,4 @@ returns-2 c =
 pub replay-spec : {M : Type 1} → statement M
 replay-spec =
     tie.close
-    (tie.spec check-requires enum-known-verdict returns enum-told play-requires returns-2)
+    (tie.spec (λ c κs. search needs) (λ c. search needs) returns (λ c. search needs) play-requires returns-2)

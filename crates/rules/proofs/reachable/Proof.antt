@@ -7,27 +7,15 @@ use Rattle.rules.proofs.Answers.{said-by-rule}
 use Rattle.rules.proofs.reachable.Statement.{statement}
 use Rattle.rules.proofs.reachable.Tie as tie
 
-compare-requires : tie.Need-compare-requires
-compare-requires c κs = search needs
-
-enum-known-pair : tie.Need-enum-known-pair
-enum-known-pair c = search needs
-
 returns : tie.Need-returns
 returns c =
     let a = c .before .before .before .before .args in
     faulty-by (a .start) (a .goal) _ _ (c .before .before .before .compare .ensures) (c .before .pair .given .1)
 
-enum-told : tie.Need-enum-told
-enum-told c = search needs
-
 rule-holds-requires : tie.Need-rule-holds-requires
 rule-holds-requires c κs =
     let e = c .before .before .compare .ensures in
     (comparable-by _ _ _ e (c .enum-told .given .1), count-by _ _ _ e (c .enum-told .given .1))
-
-yes-or-no-requires : tie.Need-yes-or-no-requires
-yes-or-no-requires c κs = search needs
 
 returns-2 : tie.Need-returns-2
 returns-2 c =
@@ -40,10 +28,10 @@ pub reachable-spec : {M : Type 1} → statement M
 reachable-spec =
     tie.close
     (tie.spec
-    compare-requires
-    enum-known-pair
+    (λ c κs. search needs)
+    (λ c. search needs)
     returns
-    enum-told
+    (λ c. search needs)
     rule-holds-requires
-    yes-or-no-requires
+    (λ c κs. search needs)
     returns-2)

@@ -16,20 +16,8 @@ four c =
     let a = c .before .args in
     omega (arith, c .deepest-of .ensures, greatest-le (a .m) (depthBy (a .h)) mostRows (c .before .pre .0 .1))
 
-deepest-of-requires : tie.Need-deepest-of-requires
-deepest-of-requires c κs = search needs
-
-cast-most : tie.Need-cast-most
-cast-most c = search needs
-
-mul-result : tie.Need-mul-result
-mul-result c = search needs
-
 mul-result-2 : tie.Need-mul-result-2
 mul-result-2 c = omega (arith, mul-le-mul (four c) (c .before .pre .1))
-
-mul-result-3 : tie.Need-mul-result-3
-mul-result-3 c = search needs
 
 add-result : tie.Need-add-result
 add-result c = omega (arith, mul-le-mul (four c) (c .before .pre .1), c .before .pre .1)
@@ -41,10 +29,10 @@ pub list-space-spec : {M : Type 1} → statement M
 list-space-spec =
     tie.close
     (tie.spec
-    deepest-of-requires
-    cast-most
-    mul-result
+    (λ c κs. search needs)
+    (λ c. search needs)
+    (λ c. search needs)
     mul-result-2
-    mul-result-3
+    (λ c. search needs)
     add-result
     returns)

@@ -19,17 +19,11 @@ add-if2 c =
 returns-2 : tie.Need-returns-2
 returns-2 c = nothing-there (c .before .before .before .before .before .before .before .pre .0) _ (c .before .before .before .before .look-ahead .ensures) _ _ (c .if2 .taken)
 
-third-requires : tie.Need-third-requires
-third-requires c κs = search needs
-
 lend-requires : tie.Need-lend-requires
 lend-requires c κs = let t = c .before .before .before .before .before .before .before .before .before .before .before .before in lend-ready (t .pre .0) _ (c .before .before .before .before .before .before .before .before .before .look-ahead .ensures) (t .args .count) (t .args .out .now) (c .before .before .before .before .before .before .before .if1 .left) _ (c .before .before .third .ensures)
 
 put-lift-requires : tie.Need-put-lift-requires
 put-lift-requires c κs = let t = c .before .before .before .before .before .before .before .before .before .before .before .before .before .before .before .before .before in turn-ready (t .pre .0) _ (c .before .before .before .before .before .before .before .before .before .before .before .before .before .before .look-ahead .ensures) (t .args .count) (t .args .out .now) (c .before .before .before .before .before .before .before .before .before .before .before .before .if1 .left) _ (c .before .before .before .before .before .before .before .third .ensures) (c .before .before .before .before .lend .last .0) (c .before .before .before .before .lend .result) (c .before .before .before .before .lend .ensures) (t .pre .1)
-
-same-length : tie.Need-same-length
-same-length c = search needs
 
 returns-3 : tie.Need-returns-3
 returns-3 c = let t = c .before .before .before .before .before .before .before .before .before .before .before .before .before .before .before .before .before .before .before .before in turned-is (t .pre .0) _ (c .before .before .before .before .before .before .before .before .before .before .before .before .before .before .before .before .before .look-ahead .ensures) (t .args .count) (t .args .out .now) (c .before .before .before .before .before .before .before .before .before .before .before .before .before .before .before .if1 .left) _ (c .before .before .before .before .before .before .before .before .before .before .third .ensures) (c .before .before .before .before .before .before .before .lend .last .0) (c .before .before .before .before .before .before .before .lend .result) (c .before .before .before .before .before .before .before .lend .ensures) (t .pre .1) (c .before .before .put-lift .ensures)
@@ -42,8 +36,8 @@ make-room-spec =
     returns
     add-if2
     returns-2
-    third-requires
+    (λ c κs. search needs)
     lend-requires
     put-lift-requires
-    same-length
+    (λ c. search needs)
     returns-3)

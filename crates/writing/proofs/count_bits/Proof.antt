@@ -25,9 +25,6 @@ add-n c = omega (arith, c .loop-test .taken, c .before .before .pre, c .before .
 height-at-requires : tie.Need-height-at-requires Inv-loop μ-loop
 height-at-requires c κs = omega (arith, c .loop-test .taken, c .before .before .pre)
 
-cast-n : tie.Need-cast-n Inv-loop μ-loop
-cast-n c = search needs
-
 mul-n : tie.Need-mul-n Inv-loop μ-loop
 mul-n c = let b : Fits w8 (c .height-at .result) = search needs in omega arith
 
@@ -62,7 +59,7 @@ count-bits-spec =
     loop-holds
     add-n
     height-at-requires
-    cast-n
+    (λ c. search needs)
     mul-n
     add-n-2
     add-x

@@ -16,44 +16,14 @@ passed c =
     let s = c .before .before .before .before .args .s in
     accepted-none (storeFault s) (cassettes s) (c .before .before .check .result) (c .before .before .check .ensures) (c .enum-told .given .1) .0
 
-check-requires : tie.Need-check-requires
-check-requires c κs = search needs
-
-enum-known-verdict : tie.Need-enum-known-verdict
-enum-known-verdict c = search needs
-
-refused-requires : tie.Need-refused-requires
-refused-requires c κs = search needs
-
-same-length : tie.Need-same-length
-same-length c = search needs
-
 returns : tie.Need-returns
 returns c =
     let a = c .before .before .before .before .before .before .before .before .before .args in
     let f = refused-one _ (storeFault (a .s)) (cassettes (a .s)) (c .before .before .before .before .before .before .before .check .result) (c .before .before .before .before .before .before .before .check .ensures) (c .before .before .before .before .before .verdict .given .1) in
     refused-write (a .s) _ (c .before .before .refused .ensures) (store-refused (a .s) (a .out .now) (c .before .before .before .before .before .verdict .given .0 .0) f) (fault-one (c .before .before .before .before .before .verdict .given .0 .0))
 
-enum-told : tie.Need-enum-told
-enum-told c = search needs
-
-cast-shafts : tie.Need-cast-shafts
-cast-shafts c = search needs
-
 count-bits-requires : tie.Need-count-bits-requires
 count-bits-requires c κs = can-write (c .before .before .before .before .before .before .before .before .args .s) (passed (c .before .before .before .before)) .most
-
-add-bits : tie.Need-add-bits
-add-bits c = search needs
-
-add-if1 : tie.Need-add-if1
-add-if1 c = search needs
-
-refused-requires-2 : tie.Need-refused-requires-2
-refused-requires-2 c κs = search needs
-
-same-length-2 : tie.Need-same-length-2
-same-length-2 c = search needs
 
 returns-2 : tie.Need-returns-2
 returns-2 c =
@@ -80,9 +50,6 @@ pad-requires c κs =
     let p = c .before .before .before .write-shafts .ensures in
     (p .full, omega (arith, h .count, h .same-length, p .count, p .same-length, length-head (a .s), c .before .before .before .before .before .before .before .before .before .before .before .before .count-bits .ensures .bits (a .s .slots), c .before .before .before .before .before .before .before .before .before .before .before .if1 .left))
 
-same-length-3 : tie.Need-same-length-3
-same-length-3 c = search needs
-
 returns-3 : tie.Need-returns-3
 returns-3 c =
     let a = c .before .before .before .before .before .before .before .before .before .before .before .before .before .before .before .before .before .before .before .before .before .before .before .before .args in
@@ -93,21 +60,21 @@ pub write-spec : {M : Type 1} → statement M
 write-spec =
     tie.close
     (tie.spec
-    check-requires
-    enum-known-verdict
-    refused-requires
-    same-length
+    (λ c κs. search needs)
+    (λ c. search needs)
+    (λ c κs. search needs)
+    (λ c. search needs)
     returns
-    enum-told
-    cast-shafts
+    (λ c. search needs)
+    (λ c. search needs)
     count-bits-requires
-    add-bits
-    add-if1
-    refused-requires-2
-    same-length-2
+    (λ c. search needs)
+    (λ c. search needs)
+    (λ c κs. search needs)
+    (λ c. search needs)
     returns-2
     write-head-requires
     write-shafts-requires
     pad-requires
-    same-length-3
+    (λ c. search needs)
     returns-3)

@@ -13,31 +13,16 @@ use borrow.Author.Needs.{needs}
 use Rattle.writing.proofs.write_head.Statement.{statement}
 use Rattle.writing.proofs.write_head.Tie as tie
 
-start-requires : tie.Need-start-requires
-start-requires c κs = search needs
-
 push-requires : tie.Need-push-requires
 push-requires c κs =
     let e = c .before .start .ensures in
     ((omega arith, omega (arith, ap (λ (p : Pen). p .full) e)), omega (arith, ap (λ (p : Pen). p .full) e, ap (λ (p : Pen). p .at) e, c .before .before .before .pre .2))
-
-sub-push : tie.Need-sub-push
-sub-push c = search needs
-
-cast-push : tie.Need-cast-push
-cast-push c = search needs
 
 push-requires-2 : tie.Need-push-requires-2
 push-requires-2 c κs =
     let e = c .before .before .before .before .before .before .start .ensures in
     let p = c .before .before .before .before .push .ensures in
     ((omega arith, p .full), omega (arith, ap (λ (q : Pen). q .full) e, ap (λ (q : Pen). q .at) e, p .count, p .same-length, length-bits 4 0, c .before .before .before .before .before .before .before .before .pre .2))
-
-sub-push-2 : tie.Need-sub-push-2
-sub-push-2 c = search needs
-
-cast-push-2 : tie.Need-cast-push-2
-cast-push-2 c = search needs
 
 push-requires-3 : tie.Need-push-requires-3
 push-requires-3 c κs =
@@ -59,9 +44,6 @@ push-requires-3 c κs =
       ),
     )
 
-same-length : tie.Need-same-length
-same-length c = search needs
-
 from-start : {l : List Bool} {a b : List ℕ} {p q : Pen} → p ≡ noBits → Pushes l a b p q → Pushes l a b noBits q
 from-start {l} {a} {b} {q = q} e x = subst (λ (r : Pen). Pushes l a b r q) e x
 
@@ -74,13 +56,13 @@ pub write-head-spec : {M : Type 1} → statement M
 write-head-spec =
     tie.close
     (tie.spec
-    start-requires
+    (λ c κs. search needs)
     push-requires
-    sub-push
-    cast-push
+    (λ c. search needs)
+    (λ c. search needs)
     push-requires-2
-    sub-push-2
-    cast-push-2
+    (λ c. search needs)
+    (λ c. search needs)
     push-requires-3
-    same-length
+    (λ c. search needs)
     returns)

@@ -31,9 +31,6 @@ add-slot-at c = omega (arith, c .before .before .before .before .pre .0, c .befo
 slot-at-requires : tie.Need-slot-at-requires Inv-loop μ-loop
 slot-at-requires c κs = omega (arith, c .before .before .before .before .pre .0, c .before .loop-test .taken)
 
-cast-push : tie.Need-cast-push Inv-loop μ-loop
-cast-push c = search needs
-
 push-requires : tie.Need-push-requires Inv-loop μ-loop
 push-requires c κs =
     let a = c .before .before .before .before .before .args in
@@ -74,7 +71,7 @@ write-rows-spec =
     mul-slot-at
     add-slot-at
     slot-at-requires
-    cast-push
+    (λ c. search needs)
     push-requires
     add-k
     loop-less

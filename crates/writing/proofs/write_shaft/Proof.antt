@@ -8,19 +8,10 @@ use borrow.Author.Needs.{needs}
 use Rattle.writing.proofs.write_shaft.Statement.{statement}
 use Rattle.writing.proofs.write_shaft.Tie as tie
 
-height-at-requires : tie.Need-height-at-requires
-height-at-requires c κs = search needs
-
-cast-push : tie.Need-cast-push
-cast-push c = search needs
-
 push-requires : tie.Need-push-requires
 push-requires c κs =
     let a = c .before .before .before .args in
     ((omega arith, c .before .before .before .pre .0 .2), omega (arith, c .before .before .before .pre .1, length-shaft (a .heights .now) (a .slots .now) (a .x)))
-
-cast-write-rows : tie.Need-cast-write-rows
-cast-write-rows c = search needs
 
 write-rows-requires : tie.Need-write-rows-requires
 write-rows-requires c κs =
@@ -31,9 +22,6 @@ write-rows-requires c κs =
       omega (arith, c .before .before .before .before .before .before .before .pre .1, c .before .before .before .before .before .height-at .ensures, length-shaft (a .heights .now) (a .slots .now) (a .x), p .count, p .same-length, length-bits heightWidth v),
     )
 
-same-length : tie.Need-same-length
-same-length c = search needs
-
 returns : tie.Need-returns
 returns c =
     let a = c .before .before .before .before .before .before .before .before .before .before .args in
@@ -43,10 +31,10 @@ pub write-shaft-spec : {M : Type 1} → statement M
 write-shaft-spec =
     tie.close
     (tie.spec
-    height-at-requires
-    cast-push
+    (λ c κs. search needs)
+    (λ c. search needs)
     push-requires
-    cast-write-rows
+    (λ c. search needs)
     write-rows-requires
-    same-length
+    (λ c. search needs)
     returns)

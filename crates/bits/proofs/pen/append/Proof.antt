@@ -17,18 +17,6 @@ appended part v w h k =
     ap₂ bitOr (shl-exact 8 w 32 h (omega arith)) (ap (λ (m : ℕ). bitAnd v (m - 1)) (one-shifted w k) ∙ and-mask v w)
     ∙ or-shifted part w (v % 2 ^ w) (mod-lt v (pow-pos w))
 
-cast-result : tie.Need-cast-result
-cast-result c = search needs
-
-shl-result : tie.Need-shl-result
-shl-result c = search needs
-
-cast-result-2 : tie.Need-cast-result-2
-cast-result-2 c = search needs
-
-shl-result-2 : tie.Need-shl-result-2
-shl-result-2 c = search needs
-
 sub-result : tie.Need-sub-result
 sub-result c = omega (arith, one-shifted (c .args .w) (c .pre), pow-pos (c .args .w))
 
@@ -37,4 +25,4 @@ returns c = appended (c .args .part) (c .args .v) (c .args .w) (omega arith) (c 
 
 pub append-spec : {M : Type 1} → statement M
 append-spec =
-    tie.close (tie.spec cast-result shl-result cast-result-2 shl-result-2 sub-result returns)
+    tie.close (tie.spec (λ c. search needs) (λ c. search needs) (λ c. search needs) (λ c. search needs) sub-result returns)

@@ -27,19 +27,10 @@ some-padding out next p q n h x = record {
 returns : tie.Need-returns
 returns c = let a = c .before .before .before .args in no-padding (a .out .now) (a .p) (c .if1 .taken)
 
-sub-push : tie.Need-sub-push
-sub-push c = search needs
-
-push-requires : tie.Need-push-requires
-push-requires c κs = search needs
-
-same-length : tie.Need-same-length
-same-length c = search needs
-
 returns-2 : tie.Need-returns-2
 returns-2 c =
     let a = c .before .before .before .before .before .before .before .before .args in
     some-padding (a .out .now) _ (a .p) _ (c .before .before .before .before .before .if1 .left) (omega arith) (c .before .before .push .ensures)
 
 pub pad-spec : {M : Type 1} → statement M
-pad-spec = tie.close (tie.spec returns sub-push push-requires same-length returns-2)
+pad-spec = tie.close (tie.spec returns (λ c. search needs) (λ c κs. search needs) (λ c. search needs) returns-2)

@@ -9,24 +9,6 @@ use Rattle.bits.proofs.Pushed.{Stores, stores-none, stores-byte, pushes
 use Rattle.bits.proofs.pen.push.Statement.{statement}
 use Rattle.bits.proofs.pen.push.Tie as tie
 
-append-requires : tie.Need-append-requires
-append-requires c κs = search needs
-
-add-full : tie.Need-add-full
-add-full c = search needs
-
-sub-full : tie.Need-sub-full
-sub-full c = search needs
-
-byte-of-requires : tie.Need-byte-of-requires
-byte-of-requires c κs = search needs
-
-slice-write-out : tie.Need-slice-write-out
-slice-write-out c = search needs
-
-add-at : tie.Need-add-at
-add-at c = search needs
-
 -- what is stored so far, and fewer bits than n are left
 abbrev Stored : tie.After-struct-known → List ℕ → ℕ → ℕ → ℕ → Type 0
 Stored c out at full n =
@@ -58,9 +40,6 @@ slice-write-out-2 c = place (c .before .before)
 add-at-2 : tie.Need-add-at-2
 add-at-2 c = let k = one (c .before .before .before .before) .1 in omega (arith, k .count, k .same-length)
 
-byte-of-requires-3 : tie.Need-byte-of-requires-3
-byte-of-requires-3 c κs = search needs
-
 same-length : tie.Need-same-length
 same-length c = two (c .before) .1 .same-length
 
@@ -74,15 +53,15 @@ pub push-spec : {M : Type 1} → statement M
 push-spec =
     tie.close
     (tie.spec
-    append-requires
-    add-full
-    sub-full
-    byte-of-requires
-    slice-write-out
-    add-at
+    (λ c κs. search needs)
+    (λ c. search needs)
+    (λ c. search needs)
+    (λ c κs. search needs)
+    (λ c. search needs)
+    (λ c. search needs)
     byte-of-requires-2
     slice-write-out-2
     add-at-2
-    byte-of-requires-3
+    (λ c κs. search needs)
     same-length
     returns)

@@ -26,30 +26,12 @@ least c = ⊎-elim (λ p. lesser-first _ _ _ (p .0 .taken) (p .1)) (λ p. lesser
 loop-holds : tie.Need-loop-holds Inv-loop μ-loop
 loop-holds c = none-compared _ _ _ _
 
-cast-i : tie.Need-cast-i Inv-loop μ-loop
-cast-i c = search needs
-
-array-read-a : tie.Need-array-read-a Inv-loop μ-loop
-array-read-a c = search needs
-
-array-read-b : tie.Need-array-read-b Inv-loop μ-loop
-array-read-b c = search needs
-
 agreeing-rows-requires : tie.Need-agreeing-rows-requires Inv-loop μ-loop
 agreeing-rows-requires c κs =
     let l = c .before .before .before in
     let s = l .before in
     let m = least c in
     (omega (arith, s .pre .0 .shafts), omega (arith, m .first, s .pre .0 .within (l .loop .x), s .pre .0 .rows (l .loop .x)))
-
-array-write-done : tie.Need-array-write-done Inv-loop μ-loop
-array-write-done c = search needs
-
-add-x : tie.Need-add-x Inv-loop μ-loop
-add-x c = search needs
-
-loop-less : tie.Need-loop-less Inv-loop μ-loop
-loop-less c = search needs
 
 loop-again : tie.Need-loop-again Inv-loop μ-loop
 loop-again c =
@@ -71,12 +53,12 @@ agreeing-spec =
     Inv-loop
     μ-loop
     loop-holds
-    cast-i
-    array-read-a
-    array-read-b
+    (λ c. search needs)
+    (λ c. search needs)
+    (λ c. search needs)
     agreeing-rows-requires
-    array-write-done
-    add-x
-    loop-less
+    (λ c. search needs)
+    (λ c. search needs)
+    (λ c. search needs)
     loop-again
     returns)

@@ -6,20 +6,11 @@ use borrow.Author.Needs.{needs}
 use Rattle.choices.proofs.choose.first_round.Statement.{statement}
 use Rattle.choices.proofs.choose.first_round.Tie as tie
 
-first-left-requires : tie.Need-first-left-requires
-first-left-requires c κs = search needs
-
 next-requires : tie.Need-next-requires
 next-requires c κs =
     let s = c .before in
     let x = c .first-left .result .0 in
     (omega (arith, c .first-left .ensures .0, s .pre .0 .shafts), omega (arith, c .first-left .ensures .1, s .pre .0 .within x, s .pre .0 .rows x))
-
-find-requires : tie.Need-find-requires
-find-requires c κs = search needs
-
-enum-known-from : tie.Need-enum-known-from
-enum-known-from c = search needs
 
 returns : tie.Need-returns
 returns c =
@@ -28,12 +19,6 @@ returns c =
     let a = n .before .before .args in
     round-found (a .f) (a .tops) (a .goal .now) (a .done .now) (a .heights .now) (a .slots .now) (n .next .result) _ (n .before .first-left .ensures) (n .next .ensures)
     (some-found (a .f) (a .heights .now) (a .slots .now) (a .done .now) (n .next .result) _ (g .find .ensures) _ (c .before .from .given .1))
-
-enum-told : tie.Need-enum-told
-enum-told c = search needs
-
-spot-at-requires : tie.Need-spot-at-requires
-spot-at-requires c κs = search needs
 
 returns-2 : tie.Need-returns-2
 returns-2 c =
@@ -49,11 +34,11 @@ pub first-round-spec : {M : Type 1} → statement M
 first-round-spec =
     tie.close
     (tie.spec
-    first-left-requires
+    (λ c κs. search needs)
     next-requires
-    find-requires
-    enum-known-from
+    (λ c κs. search needs)
+    (λ c. search needs)
     returns
-    enum-told
-    spot-at-requires
+    (λ c. search needs)
+    (λ c κs. search needs)
     returns-2)

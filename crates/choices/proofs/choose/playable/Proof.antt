@@ -19,16 +19,10 @@ below : (c : lts.Else1 (usable-reads.Asked, usable-reads.Learnt, next-reads.Aske
     → c .before .before .before .before .args .r .to .0 < c .before .before .before .before .args .f .m
 below c = ltb-true _ _ (sym (c .before .usable .ensures) ∙ not-false _ (c .if1 .left))
 
-usable-requires : tie.Need-usable-requires
-usable-requires c κs = search needs
-
 returns : tie.Need-returns
 returns c =
     let a = c .before .before .before .before .args in
     fails λ s. omega (arith, s .usable, ltb-false (a .r .to .0) (a .f .m) (sym (c .before .usable .ensures) ∙ not-true _ (c .if1 .taken)))
-
-cast-i : tie.Need-cast-i
-cast-i c = search needs
 
 array-read-if2 : tie.Need-array-read-if2
 array-read-if2 c = omega (arith, below (c .before), c .before .before .before .before .before .pre .0 .shafts)
@@ -46,9 +40,6 @@ next-requires c κs =
     let x = s .args .r .to .0 in
     (omega (arith, below e, s .pre .0 .shafts), omega (arith, c .if2 .left, s .pre .0 .within x, s .pre .0 .rows x))
 
-stands-requires : tie.Need-stands-requires
-stands-requires c κs = search needs
-
 returns-3 : tie.Need-returns-3
 returns-3 c =
     let n = c .before in
@@ -61,12 +52,12 @@ pub playable-spec : {M : Type 1} → statement M
 playable-spec =
     tie.close
     (tie.spec
-    usable-requires
+    (λ c κs. search needs)
     returns
-    cast-i
+    (λ c. search needs)
     array-read-if2
     element-copy-out-if2
     returns-2
     next-requires
-    stands-requires
+    (λ c κs. search needs)
     returns-3)

@@ -16,20 +16,8 @@ abbrev μ-loop : tie.MeasureT-loop
 loop-holds : tie.Need-loop-holds Inv-loop μ-loop
 loop-holds c = (search needs, below-none _)
 
-spot-at-requires : tie.Need-spot-at-requires Inv-loop μ-loop
-spot-at-requires c κs = search needs
-
-stands-requires : tie.Need-stands-requires Inv-loop μ-loop
-stands-requires c κs = search needs
-
 returns : tie.Need-returns Inv-loop μ-loop
 returns c = c .before .stands .ensures .so (c .if1 .taken)
-
-add-p : tie.Need-add-p Inv-loop μ-loop
-add-p c = search needs
-
-loop-less : tie.Need-loop-less Inv-loop μ-loop
-loop-less c = search needs
 
 loop-again : tie.Need-loop-again Inv-loop μ-loop
 loop-again c =
@@ -37,12 +25,6 @@ loop-again c =
     let l = t .before .before .loop in
     let a = t .before .before .before .args in
     (search needs, below-more _ _ (l .inv .1) (not-at (a .f) (a .heights .now) (a .slots .now) (a .done .now) (a .v) (l .p) _ _ _ (t .spot-at .ensures) (c .before .stands .ensures) (c .if1 .left)))
-
-spot-at-requires-2 : tie.Need-spot-at-requires-2 Inv-loop μ-loop
-spot-at-requires-2 c κs = search needs
-
-stands-requires-2 : tie.Need-stands-requires-2 Inv-loop μ-loop
-stands-requires-2 c κs = search needs
 
 returns-2 : tie.Need-returns-2 Inv-loop μ-loop
 returns-2 c = c .before .stands2 .ensures .so (c .if2 .taken)
@@ -63,13 +45,13 @@ find-spec =
     Inv-loop
     μ-loop
     loop-holds
-    spot-at-requires
-    stands-requires
+    (λ c κs. search needs)
+    (λ c κs. search needs)
     returns
-    add-p
-    loop-less
+    (λ c. search needs)
+    (λ c. search needs)
     loop-again
-    spot-at-requires-2
-    stands-requires-2
+    (λ c κs. search needs)
+    (λ c κs. search needs)
     returns-2
     returns-3)

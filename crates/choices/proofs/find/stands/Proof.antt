@@ -16,16 +16,10 @@ use Rattle.placing.proofs.rooms.usable.Reads as usable-reads
 below : (c : lts.Else1 (usable-reads.Asked, usable-reads.Learnt) reads.Pre reads.Post) → c .before .before .before .args .at .shaft .0 < c .before .before .before .args .f .m
 below c = ltb-true _ _ (sym (c .before .usable .ensures) ∙ not-false _ (c .if1 .left))
 
-usable-requires : tie.Need-usable-requires
-usable-requires c κs = search needs
-
 returns : tie.Need-returns
 returns c =
     let a = c .before .before .before .args in
     fails λ s. omega (arith, s .usable, ltb-false (a .at .shaft .0) (a .f .m) (sym (c .before .usable .ensures) ∙ not-true _ (c .if1 .taken)))
-
-cast-i : tie.Need-cast-i
-cast-i c = search needs
 
 element-copy-out-if2 : tie.Need-element-copy-out-if2
 element-copy-out-if2 c = omega (arith, below (c .before), c .before .before .before .before .pre .shafts)
@@ -38,18 +32,6 @@ element-copy-out-if3 c = omega (arith, below (c .before .before .before), c .bef
 
 returns-3 : tie.Need-returns-3
 returns-3 c = fails λ s. omega (arith, s .standing, c .if3 .taken)
-
-mul-result : tie.Need-mul-result
-mul-result c = search needs
-
-cast-result : tie.Need-cast-result
-cast-result c = search needs
-
-sub-result : tie.Need-sub-result
-sub-result c = search needs
-
-add-result : tie.Need-add-result
-add-result c = search needs
 
 element-copy-out-result : tie.Need-element-copy-out-result
 element-copy-out-result c =
@@ -68,16 +50,16 @@ pub stands-spec : {M : Type 1} → statement M
 stands-spec =
     tie.close
     (tie.spec
-    usable-requires
+    (λ c κs. search needs)
     returns
-    cast-i
+    (λ c. search needs)
     element-copy-out-if2
     returns-2
     element-copy-out-if3
     returns-3
-    mul-result
-    cast-result
-    sub-result
-    add-result
+    (λ c. search needs)
+    (λ c. search needs)
+    (λ c. search needs)
+    (λ c. search needs)
     element-copy-out-result
     returns-4)

@@ -5,20 +5,11 @@ use Rattle.placing.proofs.AheadLaws.{to-b, from-a, itself, from-b}
 use Rattle.placing.proofs.ahead.next_lift.Statement.{statement}
 use Rattle.placing.proofs.ahead.next_lift.Tie as tie
 
-aside-requires : tie.Need-aside-requires
-aside-requires c κs = search needs
-
-tight-requires : tie.Need-tight-requires
-tight-requires c κs = search needs
-
 returns : tie.Need-returns
 returns c = let e = c .before .before in to-b (e .before .before .before .args .n) (c .before .tight .ensures) (omega (arith, e .if1 .taken)) (c .if2 .taken)
 
 returns-2 : tie.Need-returns-2
 returns-2 c = let e = c .before .before in from-a (e .before .before .before .args .n) (c .before .tight .ensures) (omega (arith, e .if1 .taken)) (c .if2 .left) (e .before .before .aside .ensures)
-
-tight-requires-2 : tie.Need-tight-requires-2
-tight-requires-2 c κs = search needs
 
 returns-3 : tie.Need-returns-3
 returns-3 c = let e = c .before .before in itself (e .before .before .before .args .n) (c .before .tight2 .ensures) (omega (arith, e .if1 .left)) (c .if3 .taken) (e .before .before .aside .ensures)
@@ -29,4 +20,4 @@ returns-4 c = let e = c .before .before in from-b (e .before .before .before .ar
 pub next-lift-spec : {M : Type 1} → statement M
 next-lift-spec =
     tie.close
-    (tie.spec aside-requires tight-requires returns returns-2 tight-requires-2 returns-3 returns-4)
+    (tie.spec (λ c κs. search needs) (λ c κs. search needs) returns returns-2 (λ c κs. search needs) returns-3 returns-4)

@@ -7,11 +7,8 @@ use Rattle.placing.proofs.ahead.tight.Tie as tie
 returns : tie.Need-returns
 returns c = not-tight _ (c .if1 .taken)
 
-add-result : tie.Need-add-result
-add-result c = search needs
-
 returns-2 : tie.Need-returns-2
 returns-2 c = tight-by _ (c .before .before .before .pre .0) (c .before .if1 .left)
 
 pub tight-spec : {M : Type 1} → statement M
-tight-spec = tie.close (tie.spec returns add-result returns-2)
+tight-spec = tie.close (tie.spec returns (λ c. search needs) returns-2)

@@ -14,9 +14,6 @@ Inv-loop f heights₀ slots₀ hints₀ from count out₀ b i n₀ start₀ heig
 abbrev μ-loop : tie.MeasureT-loop
 μ-loop f heights₀ slots₀ hints₀ from count out₀ b i n₀ start₀ heights slots hints out n start = heightIn heights (from .shaft .0)
 
-cast-i : tie.Need-cast-i Inv-loop μ-loop
-cast-i c = search needs
-
 loop-holds : tie.Need-loop-holds Inv-loop μ-loop
 loop-holds c = let t = c .before .before .before in leaving-first _ _ _ _ _ (t .pre .0) (t .pre .1 .0) _ _
 
@@ -38,9 +35,6 @@ loop-again c = let t = c .before .before .before .before .before .before .before
 aside-requires-2 : tie.Need-aside-requires-2 Inv-loop μ-loop
 aside-requires-2 c κs = let t = c .before .before .before .before .before .before .before .before in aside-ready (t .pre .1 .0) (t .pre .1 .1) (c .before .before .before .before .loop .inv)
 
-cast-high : tie.Need-cast-high Inv-loop μ-loop
-cast-high c = search needs
-
 element-copy-out-high : tie.Need-element-copy-out-high Inv-loop μ-loop
 element-copy-out-high c = let t = c .before .before .before .before .before .before .before .before .before .before in entered-low (t .pre .1 .0) (t .pre .1 .1) (c .before .before .before .before .before .before .loop .inv) (c .before .aside2 .ensures) .0
 
@@ -49,9 +43,6 @@ put-lift-requires-2 c κs = let t = c .before .before .before .before .before .b
 
 add-t30 : tie.Need-add-t30 Inv-loop μ-loop
 add-t30 c = let t = c .before .before .before .before .before .before .before .before .before .before .before .before .before .before .before .before .before .before in let e = entered-low (t .pre .1 .0) (t .pre .1 .1) (c .before .before .before .before .before .before .before .before .before .before .before .before .before .before .loop .inv) (c .before .before .before .before .before .before .before .before .before .aside2 .ensures) .1 in omega arith
-
-same-length : tie.Need-same-length Inv-loop μ-loop
-same-length c = search needs
 
 returns : tie.Need-returns Inv-loop μ-loop
 returns c = let t = c .before .before .before .before .before .before .before .before .before .before .before .before .before .before .before .before .before .before in left-last (t .pre .1 .0) (t .pre .1 .1) (c .before .before .before .before .before .before .before .before .before .before .before .before .before .before .loop .inv) _ (c .before .before .before .before .before .before .before .before .before .aside2 .ensures) (c .before .before .put-lift2 .ensures) refl (c .before .before .before .before .before .before .before .before .before .before .before .if1 .left)
@@ -62,7 +53,7 @@ leave-spec =
     (tie.spec
     Inv-loop
     μ-loop
-    cast-i
+    (λ c. search needs)
     loop-holds
     element-copy-out-if1
     aside-requires
@@ -70,9 +61,9 @@ leave-spec =
     loop-less
     loop-again
     aside-requires-2
-    cast-high
+    (λ c. search needs)
     element-copy-out-high
     put-lift-requires-2
     add-t30
-    same-length
+    (λ c. search needs)
     returns)

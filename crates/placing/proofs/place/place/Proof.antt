@@ -27,9 +27,6 @@ add-if1 c = let h = few-ahead (c .before .loop .inv) in omega arith
 next-lift-requires : tie.Need-next-lift-requires Inv-loop μ-loop
 next-lift-requires c κs = next-ready (c .before .before .before .loop .inv) (omega (arith, c .before .if1 .taken))
 
-cast-y : tie.Need-cast-y Inv-loop μ-loop
-cast-y c = search needs
-
 element-copy-out-high : tie.Need-element-copy-out-high Inv-loop μ-loop
 element-copy-out-high c = entered-room (c .before .before .before .before .before .loop .inv) (c .before .next-lift .ensures) .0
 
@@ -52,9 +49,6 @@ loop-again c = underway-next (c .before .before .before .before .before .before 
 put-lift-requires-2 : tie.Need-put-lift-requires-2 Inv-loop μ-loop
 put-lift-requires-2 c κs = last-ready (c .before .before .before .before .before .before .loop .inv) (omega (arith, c .before .before .before .before .if1 .left)) (c .before .before .before .before .before .before .before .before .before .before .pre .1 .1)
 
-same-length : tie.Need-same-length Inv-loop μ-loop
-same-length c = search needs
-
 returns : tie.Need-returns Inv-loop μ-loop
 returns c = let t = c .before .before .before .before .before .before .before .before .before .before .before .before .before in placed-last (c .before .before .before .before .before .before .before .before .before .loop .inv) (omega (arith, c .before .before .before .before .before .before .before .if1 .left)) (t .pre .0) (t .pre .1 .0) (t .pre .1 .1) (c .before .before .put-lift2 .ensures)
 
@@ -68,7 +62,7 @@ place-spec =
     loop-holds
     add-if1
     next-lift-requires
-    cast-y
+    (λ c. search needs)
     element-copy-out-high
     put-lift-requires
     follow-requires
@@ -76,5 +70,5 @@ place-spec =
     loop-less
     loop-again
     put-lift-requires-2
-    same-length
+    (λ c. search needs)
     returns)

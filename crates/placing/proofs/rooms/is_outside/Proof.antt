@@ -19,9 +19,6 @@ use Rattle.placing.proofs.rooms.usable.Reads as usable-reads
 below : (c : lts.Else1 (usable-reads.Asked, usable-reads.Learnt, depth-reads.Asked, depth-reads.Learnt) reads.Pre reads.Post) → c .before .before .args .c .0 < c .before .before .args .f .m
 below c = ltb-true _ _ (sym (c .before .usable .ensures) ∙ not-false _ (c .if1 .left))
 
-usable-requires : tie.Need-usable-requires
-usable-requires c κs = search needs
-
 returns : tie.Need-returns
 returns c = fails λ o. omega (arith, o .usable, ltb-false (c .before .before .args .c .0) (c .before .before .args .f .m) (sym (c .before .usable .ensures) ∙ not-true _ (c .if1 .taken)))
 
@@ -30,12 +27,6 @@ returns-2 c = fails λ o. o .not-first (c .if2 .taken)
 
 returns-3 : tie.Need-returns-3
 returns-3 c = fails λ o. o .not-second (c .if3 .taken)
-
-depth-requires : tie.Need-depth-requires
-depth-requires c κs = search needs
-
-cast-i : tie.Need-cast-i
-cast-i c = search needs
 
 element-copy-out-result : tie.Need-element-copy-out-result
 element-copy-out-result c = let e = c .before .before .before .before .before .before .before .before in omega (arith, below e, e .before .before .pre .shafts)
@@ -50,11 +41,11 @@ pub is-outside-spec : {M : Type 1} → statement M
 is-outside-spec =
     tie.close
     (tie.spec
-    usable-requires
+    (λ c κs. search needs)
     returns
     returns-2
     returns-3
-    depth-requires
-    cast-i
+    (λ c κs. search needs)
+    (λ c. search needs)
     element-copy-out-result
     returns-4)

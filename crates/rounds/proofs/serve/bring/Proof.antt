@@ -10,19 +10,10 @@ make-room-requires c κs = let t = c .before .before .before .before .before .be
 place-requires : tie.Need-place-requires
 place-requires c κs = let t = c .before .before .before .before .before .before .before .before .before .before .before .before .before in place-ready (t .args .count) (t .args .out .now) (t .pre .1) (c .before .before .before .before .before .before .make-room .ensures)
 
-cast-i : tie.Need-cast-i
-cast-i c = search needs
-
-element-write-done : tie.Need-element-write-done
-element-write-done c = search needs
-
-same-length : tie.Need-same-length
-same-length c = search needs
-
 returns : tie.Need-returns
 returns c = let t = c .before .before .before .before .before .before .before .before .before .before .before .before .before .before .before .before .before in served (t .args .count) (t .args .out .now) (t .pre .1) (c .before .before .before .before .before .before .before .before .before .before .make-room .ensures) (c .before .before .before .place .ensures)
 
 pub bring-spec : {M : Type 1} → statement M
 bring-spec =
     tie.close
-    (tie.spec make-room-requires place-requires cast-i element-write-done same-length returns)
+    (tie.spec make-room-requires place-requires (λ c. search needs) (λ c. search needs) (λ c. search needs) returns)

@@ -8,23 +8,11 @@ use Rattle.rounds.proofs.serve.play.Tie as tie
 serve-requires : tie.Need-serve-requires
 serve-requires c κs = let t = c .before .before .before .before .before .before in (t .pre .0, (t .pre .1 .0, omega (arith, t .pre .1 .1)))
 
-enum-known-owed : tie.Need-enum-known-owed
-enum-known-owed c = search needs
-
 restore-requires : tie.Need-restore-requires
 restore-requires c κs = let t = c .before .before .before .before .before .before .before .before .before .before .before .before .before .before .before .before .before in restore-ready (t .pre .0) (t .pre .1 .1) (c .before .before .before .before .before .before .before .before .before .before .serve .ensures) _ (c .before .before .before .before .before .before .owed .given .1)
 
-same-length : tie.Need-same-length
-same-length c = search needs
-
 returns : tie.Need-returns
 returns c = let t = c .before .before .before .before .before .before .before .before .before .before .before .before .before .before .before .before .before .before .before .before in played-lent (t .pre .0) (t .pre .1 .1) (c .before .before .before .before .before .before .before .before .before .before .before .before .before .serve .ensures) _ (c .before .before .before .before .before .before .before .before .before .owed .given .1) (c .before .before .restore .ensures)
-
-enum-told : tie.Need-enum-told
-enum-told c = search needs
-
-same-length-2 : tie.Need-same-length-2
-same-length-2 c = search needs
 
 returns-2 : tie.Need-returns-2
 returns-2 c = let t = c .before .before .before .before .before .before .before .before .before .before .before in played-whole (t .pre .0) (t .pre .1 .1) (c .before .before .before .before .serve .ensures) (c .enum-told .given .1)
@@ -34,10 +22,10 @@ play-spec =
     tie.close
     (tie.spec
     serve-requires
-    enum-known-owed
+    (λ c. search needs)
     restore-requires
-    same-length
+    (λ c. search needs)
     returns
-    enum-told
-    same-length-2
+    (λ c. search needs)
+    (λ c. search needs)
     returns-2)

@@ -11,26 +11,14 @@ next-requires c κs = let t = c .before .before in restore-row (t .pre .0) (t .p
 seek-requires : tie.Need-seek-requires
 seek-requires c κs = let t = c .before .before .before .before .before .before .before in seek-ready (t .pre .0) (t .pre .1 .0) _ (c .before .before .before .before .next .ensures)
 
-cast-i : tie.Need-cast-i
-cast-i c = search needs
-
-element-copy-out-row : tie.Need-element-copy-out-row
-element-copy-out-row c = search needs
-
 add-row : tie.Need-add-row
 add-row c = let t = c .before .before .before .before .before .before .before .before .before .before in omega (arith, restore-row (t .pre .0) (t .pre .1 .0) .1)
-
-element-write-done : tie.Need-element-write-done
-element-write-done c = search needs
 
 returns : tie.Need-returns
 returns c = let t = c .before .before .before .before .before .before .before .before .before .before .before .before .before in restored-there (t .pre .0) (t .pre .1 .0) _ (c .before .before .before .before .before .before .before .before .before .before .next .ensures) _ (c .before .before .before .before .before .seek .ensures) _ _ (c .if1 .taken)
 
 place-requires : tie.Need-place-requires
 place-requires c κs = let t = c .before .before .before .before .before .before .before .before .before .before .before .before .before .before .before .before .before in restore-place (t .pre .0) (t .pre .1 .0) _ (c .before .before .before .before .before .before .before .before .before .before .before .before .before .before .next .ensures) _ (c .before .before .before .before .before .before .before .before .before .seek .ensures) (c .before .before .before .before .if1 .left) _ (t .args .out .now) (t .pre .1 .1)
-
-same-length : tie.Need-same-length
-same-length c = search needs
 
 returns-2 : tie.Need-returns-2
 returns-2 c = let t = c .before .before .before .before .before .before .before .before .before .before .before .before .before .before .before .before .before .before .before .before in restored (t .pre .0) (t .pre .1 .0) _ (c .before .before .before .before .before .before .before .before .before .before .before .before .before .before .before .before .before .next .ensures) _ (c .before .before .before .before .before .before .before .before .before .before .before .before .seek .ensures) (c .before .before .before .before .before .before .before .if1 .left) (c .before .before .place .ensures)
@@ -41,11 +29,11 @@ restore-spec =
     (tie.spec
     next-requires
     seek-requires
-    cast-i
-    element-copy-out-row
+    (λ c. search needs)
+    (λ c. search needs)
     add-row
-    element-write-done
+    (λ c. search needs)
     returns
     place-requires
-    same-length
+    (λ c. search needs)
     returns-2)

@@ -6,17 +6,8 @@ use Rattle.rounds.proofs.Servings.{next-row, already, leave-ready, brin
 use Rattle.rounds.proofs.serve.serve.Statement.{statement}
 use Rattle.rounds.proofs.serve.serve.Tie as tie
 
-cast-i : tie.Need-cast-i
-cast-i c = search needs
-
-element-copy-out-row : tie.Need-element-copy-out-row
-element-copy-out-row c = search needs
-
 add-row : tie.Need-add-row
 add-row c = let t = c .before .before .before .before .before in let h = next-row (t .pre .0) (t .pre .1 .0) in omega arith
-
-element-write-done : tie.Need-element-write-done
-element-write-done c = search needs
 
 returns : tie.Need-returns
 returns c = let t = c .before .before .before .before .before .before .before .before .before .before in already (t .pre .0) (t .pre .1 .0) (t .args .count) (t .args .out .now) _ refl (c .before .before .if1 .taken) (c .if2 .taken)
@@ -27,17 +18,11 @@ leave-requires c κs = let t = c .before .before .before .before .before .before
 bring-requires : tie.Need-bring-requires
 bring-requires c κs = let t = c .before .before .before .before .before .before .before .before .before .before .before .before .before .before .before .before .before .before .before .before .before .before .before in bring-left (t .pre .0) (t .pre .1 .0) (t .args .count) (t .args .out .now) (t .pre .1 .1) _ refl (c .before .before .before .before .before .before .before .before .before .before .before .before .before .before .before .if1 .taken) (c .before .before .before .before .before .before .before .before .before .before .before .before .before .if2 .left) (c .before .before .before .before .before .before .before .before .leave .ensures)
 
-same-length : tie.Need-same-length
-same-length c = search needs
-
 returns-2 : tie.Need-returns-2
 returns-2 c = let t = c .before .before .before .before .before .before .before .before .before .before .before .before .before .before .before .before .before .before .before .before .before .before .before .before .before .before in served-left (t .pre .0) (t .pre .1 .0) (t .args .count) (t .args .out .now) (t .pre .1 .1) _ refl (c .before .before .before .before .before .before .before .before .before .before .before .before .before .before .before .before .before .before .if1 .taken) (c .before .before .before .before .before .before .before .before .before .before .before .before .before .before .before .before .if2 .left) (c .before .before .before .before .before .before .before .before .before .before .before .leave .ensures) (c .before .before .bring .ensures)
 
 bring-requires-2 : tie.Need-bring-requires-2
 bring-requires-2 c κs = let t = c .before .before .before .before .before .before .before .before .before .before .before .before .before in bring-from (t .pre .0) (t .pre .1 .0) (t .args .count) (t .args .out .now) (t .pre .1 .1) _ refl (c .before .before .before .before .before .if1 .left)
-
-same-length-2 : tie.Need-same-length-2
-same-length-2 c = search needs
 
 returns-3 : tie.Need-returns-3
 returns-3 c = let t = c .before .before .before .before .before .before .before .before .before .before .before .before .before .before .before .before in served-from (t .pre .0) (t .pre .1 .0) (t .args .count) (t .args .out .now) (t .pre .1 .1) _ refl (c .before .before .before .before .before .before .before .before .if1 .left) (c .before .before .bring2 .ensures)
@@ -46,15 +31,15 @@ pub serve-spec : {M : Type 1} → statement M
 serve-spec =
     tie.close
     (tie.spec
-    cast-i
-    element-copy-out-row
+    (λ c. search needs)
+    (λ c. search needs)
     add-row
-    element-write-done
+    (λ c. search needs)
     returns
     leave-requires
     bring-requires
-    same-length
+    (λ c. search needs)
     returns-2
     bring-requires-2
-    same-length-2
+    (λ c. search needs)
     returns-3)

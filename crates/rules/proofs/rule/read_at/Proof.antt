@@ -5,12 +5,6 @@ use borrow.Author.Needs.{needs}
 use Rattle.rules.proofs.rule.read_at.Statement.{statement}
 use Rattle.rules.proofs.rule.read_at.Tie as tie
 
-element-copy-out-low : tie.Need-element-copy-out-low
-element-copy-out-low c = search needs
-
-cast-low : tie.Need-cast-low
-cast-low c = search needs
-
 element-copy-out-result : tie.Need-element-copy-out-result
 element-copy-out-result c = omega (arith, c .before .before .pre .0 .heights 0, c .before .before .pre .0 .rows 0, c .if1 .taken)
 
@@ -18,12 +12,6 @@ returns : tie.Need-returns
 returns c =
     let a = c .before .before .before .args in
     read-low (a .t1) (a .p) (c .before .if1 .taken)
-
-sub-place : tie.Need-sub-place
-sub-place c = search needs
-
-sub-place-2 : tie.Need-sub-place-2
-sub-place-2 c = search needs
 
 add-place : tie.Need-add-place
 add-place c = omega (arith, c .before .before .pre .0 .heights 1, c .before .before .pre .0 .rows 1, c .if1 .left, c .before .before .pre .1)
@@ -40,12 +28,12 @@ pub read-at-spec : {M : Type 1} → statement M
 read-at-spec =
     tie.close
     (tie.spec
-    element-copy-out-low
-    cast-low
+    (λ c. search needs)
+    (λ c. search needs)
     element-copy-out-result
     returns
-    sub-place
-    sub-place-2
+    (λ c. search needs)
+    (λ c. search needs)
     add-place
     element-copy-out-result-2
     returns-2)

@@ -29,23 +29,11 @@ tested c =
 loop-holds : tie.Need-loop-holds Inv-loop μ-loop
 loop-holds c = (refl, omega arith, below-none _)
 
-depth-of-requires : tie.Need-depth-of-requires Inv-loop μ-loop
-depth-of-requires c κs = search needs
-
-floor-rows-requires : tie.Need-floor-rows-requires Inv-loop μ-loop
-floor-rows-requires c κs = search needs
-
 same-rows-requires : tie.Need-same-rows-requires Inv-loop μ-loop
 same-rows-requires c κs = (omega (arith, c .before .before .loop-test .taken, c .before .before .before .before .pre .0), omega (arith, c .floor-rows .ensures, c .before .depth-of .ensures, c .before .before .before .before .pre .1 (c .before .before .before .loop .x)))
 
 returns : tie.Need-returns Inv-loop μ-loop
 returns c = fails λ e. tested (c .before) .not-so (not-true _ (c .if1 .taken)) (e (c .before .before .before .before .before .loop .x) (c .before .before .before .before .loop-test .taken))
-
-add-x : tie.Need-add-x Inv-loop μ-loop
-add-x c = search needs
-
-loop-less : tie.Need-loop-less Inv-loop μ-loop
-loop-less c = search needs
 
 loop-again : tie.Need-loop-again Inv-loop μ-loop
 loop-again c = (refl, omega (arith, c .before .before .before .before .loop-test .taken), below-more _ _ (c .before .before .before .before .before .loop .inv .2) (tested (c .before) .so (not-false _ (c .if1 .left))))
@@ -60,11 +48,11 @@ same-floors-spec =
     Inv-loop
     μ-loop
     loop-holds
-    depth-of-requires
-    floor-rows-requires
+    (λ c κs. search needs)
+    (λ c κs. search needs)
     same-rows-requires
     returns
-    add-x
-    loop-less
+    (λ c. search needs)
+    (λ c. search needs)
     loop-again
     returns-2)

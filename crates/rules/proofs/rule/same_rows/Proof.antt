@@ -19,35 +19,11 @@ abbrev μ-loop : tie.MeasureT-loop
 loop-holds : tie.Need-loop-holds Inv-loop μ-loop
 loop-holds c = (omega arith, λ j h. absurd (omega arith))
 
-mul-slot-at : tie.Need-mul-slot-at Inv-loop μ-loop
-mul-slot-at c = search needs
-
-add-slot-at : tie.Need-add-slot-at Inv-loop μ-loop
-add-slot-at c = search needs
-
-slot-at-requires : tie.Need-slot-at-requires Inv-loop μ-loop
-slot-at-requires c κs = search needs
-
-mul-slot-at-2 : tie.Need-mul-slot-at-2 Inv-loop μ-loop
-mul-slot-at-2 c = search needs
-
-add-slot-at-2 : tie.Need-add-slot-at-2 Inv-loop μ-loop
-add-slot-at-2 c = search needs
-
-slot-at-requires-2 : tie.Need-slot-at-requires-2 Inv-loop μ-loop
-slot-at-requires-2 c κs = search needs
-
 returns : tie.Need-returns Inv-loop μ-loop
 unfolding shown
 returns c =
     let a = c .before .before .before .before .before .args in
     fails λ e. c .if1 .taken (c .before .before .slot-at .ensures ∙ rows-each (a .a .now) (a .b .now) (a .x) (a .k) (c .before .before .before .before .loop .i) e (c .before .before .before .loop-test .taken) ∙ sym (c .before .slot-at2 .ensures))
-
-add-i : tie.Need-add-i Inv-loop μ-loop
-add-i c = search needs
-
-loop-less : tie.Need-loop-less Inv-loop μ-loop
-loop-less c = search needs
 
 loop-again : tie.Need-loop-again Inv-loop μ-loop
 unfolding shown
@@ -68,14 +44,14 @@ same-rows-spec =
     Inv-loop
     μ-loop
     loop-holds
-    mul-slot-at
-    add-slot-at
-    slot-at-requires
-    mul-slot-at-2
-    add-slot-at-2
-    slot-at-requires-2
+    (λ c. search needs)
+    (λ c. search needs)
+    (λ c κs. search needs)
+    (λ c. search needs)
+    (λ c. search needs)
+    (λ c κs. search needs)
     returns
-    add-i
-    loop-less
+    (λ c. search needs)
+    (λ c. search needs)
     loop-again
     returns-2)

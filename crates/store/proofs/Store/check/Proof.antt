@@ -30,22 +30,10 @@ placed c =
     by-shafts s (sym (c .before .before .before .before .before .frame-in-range .ensures) ∙ not-false _ (c .before .before .before .before .if1 .left)) a b (λ i. n i .fits)
     ∙ sym (c .before .shafts-in-place .ensures) ∙ not-false _ (c .if2 .left)
 
-frame-in-range-requires : tie.Need-frame-in-range-requires
-frame-in-range-requires c κs = search needs
-
-refused-requires : tie.Need-refused-requires
-refused-requires c κs = search needs
-
 returns : tie.Need-returns
 returns c =
     refused-is OutOfPlace _ _ _ (c .refused .ensures)
     (out-of-place (c .before .before .before .before .before .args .self) (frame-fails (c .before .before .before .before .before .args .self) (sym (c .before .before .frame-in-range .ensures) ∙ not-true _ (c .before .if1 .taken))))
-
-shafts-in-place-requires : tie.Need-shafts-in-place-requires
-shafts-in-place-requires c κs = search needs
-
-refused-requires-2 : tie.Need-refused-requires-2
-refused-requires-2 c κs = search needs
 
 returns-2 : tie.Need-returns-2
 returns-2 c =
@@ -58,34 +46,16 @@ returns-2 c =
     (by-shafts s (sym (c .before .before .before .before .before .before .frame-in-range .ensures) ∙ not-false _ (c .before .before .before .before .before .if1 .left)) a b (λ i. n i .fits)
     ∙ sym (c .before .before .shafts-in-place .ensures) ∙ not-true _ (c .before .if2 .taken)))
 
-none-requires : tie.Need-none-requires
-none-requires c κs = search needs
-
 check-shafts-requires : tie.Need-check-shafts-requires
 check-shafts-requires c κs =
     let p = placed (c .before .before .before .before) in
     ((shafts-in-range (c .before .before .before .before .before .before .before .before .before .before .before .before .args .self) p .1, λ x. rows-in-range (c .before .before .before .before .before .before .before .before .before .before .before .before .args .self) p x .1), c .before .before .before .none .ensures)
-
-enum-known-f : tie.Need-enum-known-f
-enum-known-f c = search needs
-
-refused-requires-3 : tie.Need-refused-requires-3
-refused-requires-3 c κs = search needs
 
 returns-3 : tie.Need-returns-3
 returns-3 c =
     let g = c .before .before .f .given in
     refused-is (g .0 .0) _ _ _ (c .refused3 .ensures)
     (walk-faulted (c .before .before .before .before .before .before .before .before .before .before .before .before .before .before .before .before .before .args .self) (placed (c .before .before .before .before .before .before .before .before .before)) _ (sym (c .before .before .before .before .check-shafts .ensures .verdict .has) ∙ ap verdictNumber (g .1)) (fault-one (g .0 .0)))
-
-enum-told : tie.Need-enum-told
-enum-told c = search needs
-
-count-requires : tie.Need-count-requires
-count-requires c κs = search needs
-
-refused-requires-4 : tie.Need-refused-requires-4
-refused-requires-4 c κs = search needs
 
 returns-4 : tie.Need-returns-4
 unfolding cassetteCount
@@ -110,19 +80,19 @@ pub check-spec : {M : Type 1} → statement M
 check-spec =
     tie.close
     (tie.spec
-    frame-in-range-requires
-    refused-requires
+    (λ c κs. search needs)
+    (λ c κs. search needs)
     returns
-    shafts-in-place-requires
-    refused-requires-2
+    (λ c κs. search needs)
+    (λ c κs. search needs)
     returns-2
-    none-requires
+    (λ c κs. search needs)
     check-shafts-requires
-    enum-known-f
-    refused-requires-3
+    (λ c. search needs)
+    (λ c κs. search needs)
     returns-3
-    enum-told
-    count-requires
-    refused-requires-4
+    (λ c. search needs)
+    (λ c κs. search needs)
+    (λ c κs. search needs)
     returns-4
     returns-5)

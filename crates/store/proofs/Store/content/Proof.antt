@@ -18,28 +18,13 @@ there c = sym (c .before .has-slot .ensures) ∙ not-false _ (c .if1 .left)
 range : (c : tie.Else1) → (c .before .before .args .x .0 < mostShafts) × ((0 < c .before .before .args .y .0) × (c .before .before .args .y .0 ≤ mostRows))
 range c = slot-range (c .before .before .args .t1) (c .before .before .args .x .0) (c .before .before .args .y .0) (there c)
 
-has-slot-requires : tie.Need-has-slot-requires
-has-slot-requires c κs = search needs
-
 returns : tie.Need-returns
 returns c =
     let a = c .before .before .args in
     content-none (a .t1) (a .x .0) (a .y .0) (sym (c .before .has-slot .ensures) ∙ not-true _ (c .if1 .taken))
 
-cast-i : tie.Need-cast-i
-cast-i c = search needs
-
-cast-row : tie.Need-cast-row
-cast-row c = search needs
-
-mul-result : tie.Need-mul-result
-mul-result c = search needs
-
 sub-result : tie.Need-sub-result
 sub-result c = omega (arith, range (c .before .before))
-
-add-result : tie.Need-add-result
-add-result c = search needs
 
 element-copy-out-result : tie.Need-element-copy-out-result
 element-copy-out-result c = omega (arith, range (c .before .before))
@@ -53,12 +38,12 @@ pub content-spec : {M : Type 1} → statement M
 content-spec =
     tie.close
     (tie.spec
-    has-slot-requires
+    (λ c κs. search needs)
     returns
-    cast-i
-    cast-row
-    mul-result
+    (λ c. search needs)
+    (λ c. search needs)
+    (λ c. search needs)
     sub-result
-    add-result
+    (λ c. search needs)
     element-copy-out-result
     returns-2)

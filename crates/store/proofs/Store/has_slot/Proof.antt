@@ -21,12 +21,6 @@ returns-3 c =
     let a = c .before .before .before .before .before .before .before .args in
     sym (slot-none (a .self) (a .x .0) (a .y .0) (omega arith) (omega arith) (omega arith))
 
-cast-depth-of : tie.Need-cast-depth-of
-cast-depth-of c = search needs
-
-depth-of-requires : tie.Need-depth-of-requires
-depth-of-requires c κs = search needs
-
 returns-4 : tie.Need-returns-4
 returns-4 c =
     let a = c .before .before .before .before .before .before .before .before .before .before .before .args in
@@ -40,4 +34,4 @@ returns-5 c =
 pub has-slot-spec : {M : Type 1} → statement M
 has-slot-spec =
     tie.close
-    (tie.spec returns returns-2 returns-3 cast-depth-of depth-of-requires returns-4 returns-5)
+    (tie.spec returns returns-2 returns-3 (λ c. search needs) (λ c κs. search needs) returns-4 returns-5)

@@ -7,19 +7,10 @@ use Rattle.lifts.specs.Lifting.{mostShafts}
 use Rattle.store.proofs.Store.height.Statement.{statement}
 use Rattle.store.proofs.Store.height.Tie as tie
 
-cast-i : tie.Need-cast-i
-cast-i c = search needs
-
-element-copy-out-result : tie.Need-element-copy-out-result
-element-copy-out-result c = search needs
-
-returns : tie.Need-returns
-returns c = search needs
-
 returns-2 : tie.Need-returns-2
 returns-2 c =
     let e : length (c .before .before .args .t1 .heights) ≡ mostShafts = search needs in
     sym (List·getD-eq-default (c .before .before .args .t1 .heights) 0 (omega arith))
 
 pub height-spec : {M : Type 1} → statement M
-height-spec = tie.close (tie.spec cast-i element-copy-out-result returns returns-2)
+height-spec = tie.close (tie.spec (λ c. search needs) (λ c. search needs) (λ c. search needs) returns-2)

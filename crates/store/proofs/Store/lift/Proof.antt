@@ -9,33 +9,15 @@ use Rattle.store.proofs.Refusals.{none-allowed}
 use Rattle.store.proofs.Store.lift.Statement.{statement}
 use Rattle.store.proofs.Store.lift.Tie as tie
 
-check-requires : tie.Need-check-requires
-check-requires c κs = search needs
-
-enum-known-verdict : tie.Need-enum-known-verdict
-enum-known-verdict c = search needs
-
 returns : tie.Need-returns
 returns c =
     let g = c .before .verdict .given in
     store-refused (c .before .before .before .before .args .self) (c .before .before .before .before .args .from .0) (c .before .before .before .before .args .to .0) (g .0 .0) (refused-one (g .0 .0) _ _ _ (c .before .before .before .check .ensures) (g .1))
 
-enum-told : tie.Need-enum-told
-enum-told c = search needs
-
-judge-in-requires : tie.Need-judge-in-requires
-judge-in-requires c κs = search needs
-
-enum-known-r : tie.Need-enum-known-r
-enum-known-r c = search needs
-
 returns-2 : tie.Need-returns-2
 returns-2 c =
     let g = c .before .r .given in
     lift-refused (c .before .before .before .before .before .before .before .args .self) (c .before .before .before .before .before .before .before .args .from .0) (c .before .before .before .before .before .before .before .args .to .0) (g .0 .0) (accepted-none _ _ _ (c .before .before .before .before .before .before .check .ensures) (c .before .before .before .before .enum-told .given .1) .0) (sym (ap judgedNumber (g .1)) ∙ c .before .before .before .judge-in .ensures .has)
-
-enum-told-2 : tie.Need-enum-told-2
-enum-told-2 c = search needs
 
 carried-in-requires : tie.Need-carried-in-requires
 carried-in-requires c κs = (accepted-shaped (c .before .before .before .before .before .before .args .self) (accepted-none _ _ _ (c .before .before .before .before .before .check .ensures) (c .before .before .before .enum-told .given .1) .0), none-allowed (c .before .before .before .before .before .before .args .self) (c .before .before .before .before .before .before .args .from .0) (c .before .before .before .before .before .before .args .to .0) (sym (c .before .before .judge-in .ensures .has) ∙ ap judgedNumber (c .enum-told2 .given .1)))
@@ -47,13 +29,13 @@ pub lift-spec : {M : Type 1} → statement M
 lift-spec =
     tie.close
     (tie.spec
-    check-requires
-    enum-known-verdict
+    (λ c κs. search needs)
+    (λ c. search needs)
     returns
-    enum-told
-    judge-in-requires
-    enum-known-r
+    (λ c. search needs)
+    (λ c κs. search needs)
+    (λ c. search needs)
     returns-2
-    enum-told-2
+    (λ c. search needs)
     carried-in-requires
     returns-3)

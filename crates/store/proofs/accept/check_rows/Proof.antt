@@ -21,24 +21,6 @@ abbrev μ-loop : tie.MeasureT-loop
 loop-holds : tie.Need-loop-holds Inv-loop μ-loop
 loop-holds c = (omega arith, no-rows _ _ _)
 
-mul-slot-at : tie.Need-mul-slot-at Inv-loop μ-loop
-mul-slot-at c = search needs
-
-add-slot-at : tie.Need-add-slot-at Inv-loop μ-loop
-add-slot-at c = search needs
-
-slot-at-requires : tie.Need-slot-at-requires Inv-loop μ-loop
-slot-at-requires c κs = search needs
-
-take-requires : tie.Need-take-requires Inv-loop μ-loop
-take-requires c κs = search needs
-
-enum-told : tie.Need-enum-told Inv-loop μ-loop
-enum-told c = search needs
-
-enum-told-2 : tie.Need-enum-told-2 Inv-loop μ-loop
-enum-told-2 c = search needs
-
 returns : tie.Need-returns Inv-loop μ-loop
 unfolding shown
 returns c =
@@ -46,21 +28,12 @@ returns c =
     (subst (λ (v : ℕ). TakenIs (c .before .before .before .before .before .before .loop .marks) v (c .before .before .take .last .0) (c .before .before .take .result)) (c .before .before .before .slot-at .ensures) (c .before .before .take .ensures))
     (ap takenNumber (c .enum-told2 .given .1)) (c .before .before .before .before .before .loop-test .taken)
 
-enum-told-3 : tie.Need-enum-told-3 Inv-loop μ-loop
-enum-told-3 c = search needs
-
 returns-2 : tie.Need-returns-2 Inv-loop μ-loop
 unfolding shown
 returns-2 c =
     row-refused (c .before .before .before .before .before .before .loop .inv .1) Fault.Twice _ (c .before .before .before .before .before .before .before .args .rows)
     (subst (λ (v : ℕ). TakenIs (c .before .before .before .before .before .before .loop .marks) v (c .before .before .take .last .0) (c .before .before .take .result)) (c .before .before .before .slot-at .ensures) (c .before .before .take .ensures))
     (ap takenNumber (c .enum-told3 .given .1)) (c .before .before .before .before .before .loop-test .taken)
-
-add-k : tie.Need-add-k Inv-loop μ-loop
-add-k c = search needs
-
-loop-less : tie.Need-loop-less Inv-loop μ-loop
-loop-less c = search needs
 
 loop-again : tie.Need-loop-again Inv-loop μ-loop
 unfolding shown
@@ -83,16 +56,16 @@ check-rows-spec =
     Inv-loop
     μ-loop
     loop-holds
-    mul-slot-at
-    add-slot-at
-    slot-at-requires
-    take-requires
-    enum-told
-    enum-told-2
+    (λ c. search needs)
+    (λ c. search needs)
+    (λ c κs. search needs)
+    (λ c κs. search needs)
+    (λ c. search needs)
+    (λ c. search needs)
     returns
-    enum-told-3
+    (λ c. search needs)
     returns-2
-    add-k
-    loop-less
+    (λ c. search needs)
+    (λ c. search needs)
     loop-again
     returns-3)

@@ -19,41 +19,20 @@ abbrev μ-loop : tie.MeasureT-loop
 loop-holds : tie.Need-loop-holds Inv-loop μ-loop
 loop-holds c = (refl, omega arith, no-shafts _ (c .pre .1))
 
-height-at-requires : tie.Need-height-at-requires Inv-loop μ-loop
-height-at-requires c κs = search needs
-
-depth-of-requires : tie.Need-depth-of-requires Inv-loop μ-loop
-depth-of-requires c κs = search needs
-
 returns : tie.Need-returns Inv-loop μ-loop
 returns c =
     shaft-high (c .before .before .before .before .loop .inv .2) (c .before .before .before .loop-test .taken) (omega (arith, c .if1 .taken, c .before .depth-of .ensures, c .before .before .height-at .ensures))
-
-cast-check-rows : tie.Need-cast-check-rows Inv-loop μ-loop
-cast-check-rows c = search needs
 
 check-rows-requires : tie.Need-check-rows-requires Inv-loop μ-loop
 check-rows-requires c κs =
     let a = c .before .before .before .before .before .before .args in
     (omega (arith, c .before .before .before .before .loop-test .taken, c .before .before .before .before .before .before .pre .0 .0), omega (arith, c .before .if1 .left, c .before .before .depth-of .ensures, c .before .before .before .before .before .before .pre .0 .1 (c .before .before .before .before .before .loop .x)))
 
-enum-known-f : tie.Need-enum-known-f Inv-loop μ-loop
-enum-known-f c = search needs
-
 returns-2 : tie.Need-returns-2 Inv-loop μ-loop
 returns-2 c =
     shaft-refused (c .before .before .before .before .before .before .before .before .before .loop .inv .2) _ (c .before .before .before .before .before .before .before .before .loop-test .taken) (omega (arith, c .before .before .before .before .before .if1 .left, c .before .before .before .before .before .before .depth-of .ensures, c .before .before .before .before .before .before .before .height-at .ensures))
     (subst (λ (k : ℕ). RowsAre (c .before .before .before .before .before .before .before .before .before .loop .marks) (c .before .before .before .before .before .before .before .before .before .before .args .slots .now) (c .before .before .before .before .before .before .before .before .before .loop .x) k (c .before .before .before .check-rows .last .1 .1 .1 .0) (c .before .before .before .check-rows .result)) (c .before .before .before .before .before .before .before .height-at .ensures) (c .before .before .before .check-rows .ensures))
     (c .before .f .given .1)
-
-enum-told : tie.Need-enum-told Inv-loop μ-loop
-enum-told c = search needs
-
-add-x : tie.Need-add-x Inv-loop μ-loop
-add-x c = search needs
-
-loop-less : tie.Need-loop-less Inv-loop μ-loop
-loop-less c = search needs
 
 loop-again : tie.Need-loop-again Inv-loop μ-loop
 loop-again c = (
@@ -78,15 +57,15 @@ check-shafts-spec =
     Inv-loop
     μ-loop
     loop-holds
-    height-at-requires
-    depth-of-requires
+    (λ c κs. search needs)
+    (λ c κs. search needs)
     returns
-    cast-check-rows
+    (λ c. search needs)
     check-rows-requires
-    enum-known-f
+    (λ c. search needs)
     returns-2
-    enum-told
-    add-x
-    loop-less
+    (λ c. search needs)
+    (λ c. search needs)
+    (λ c. search needs)
     loop-again
     returns-3)

@@ -4,12 +4,6 @@ use borrow.Author.Needs.{needs}
 use Rattle.store.proofs.accept.fillable_rows.Statement.{statement}
 use Rattle.store.proofs.accept.fillable_rows.Tie as tie
 
-height-at-requires : tie.Need-height-at-requires
-height-at-requires c κs = search needs
-
-cast-result : tie.Need-cast-result
-cast-result c = search needs
-
 returns : tie.Need-returns
 returns c = simp (lt-ltb (c .before .before .args .x) (c .before .before .args .m) (c .before .if1 .taken)) (c .height-at .ensures)
 
@@ -17,4 +11,4 @@ returns-2 : tie.Need-returns-2
 returns-2 c = simp (le-ltb (c .before .args .x) (c .before .args .m) (c .if1 .left))
 
 pub fillable-rows-spec : {M : Type 1} → statement M
-fillable-rows-spec = tie.close (tie.spec height-at-requires cast-result returns returns-2)
+fillable-rows-spec = tie.close (tie.spec (λ c κs. search needs) (λ c. search needs) returns returns-2)

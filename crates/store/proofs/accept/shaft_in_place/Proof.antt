@@ -16,38 +16,17 @@ Inv-loop m heights slots x rows k₀ k = (rows ≡ fillable m heights x) × (hei
 abbrev μ-loop : tie.MeasureT-loop
 μ-loop m heights slots x rows k₀ k = 16 - k
 
-fillable-rows-requires : tie.Need-fillable-rows-requires Inv-loop μ-loop
-fillable-rows-requires c κs = search needs
-
-height-at-requires : tie.Need-height-at-requires Inv-loop μ-loop
-height-at-requires c κs = search needs
-
-cast-if1 : tie.Need-cast-if1 Inv-loop μ-loop
-cast-if1 c = search needs
-
 returns : tie.Need-returns Inv-loop μ-loop
 returns c = shaft-past (c .before .before .before .args .m) (c .before .before .before .args .heights .now) (c .before .before .before .args .slots .now) (c .before .before .before .args .x) (omega (arith, c .if1 .taken, c .before .height-at .ensures, c .before .before .fillable-rows .ensures))
 
 loop-holds : tie.Need-loop-holds Inv-loop μ-loop
 loop-holds c = (c .before .before .fillable-rows .ensures, omega (arith, c .if1 .left, c .before .height-at .ensures), omega arith, λ j h i. absurd (omega arith))
 
-mul-slot-at : tie.Need-mul-slot-at Inv-loop μ-loop
-mul-slot-at c = search needs
-
-add-slot-at : tie.Need-add-slot-at Inv-loop μ-loop
-add-slot-at c = search needs
-
-slot-at-requires : tie.Need-slot-at-requires Inv-loop μ-loop
-slot-at-requires c κs = search needs
-
 returns-2 : tie.Need-returns-2 Inv-loop μ-loop
 unfolding shown
 returns-2 c =
     slot-filled (c .before .before .before .before .before .before .before .args .m) (c .before .before .before .before .before .before .before .args .heights .now) (c .before .before .before .before .before .before .before .args .slots .now) (c .before .before .before .before .before .before .before .args .x) (c .before .before .before .loop .k) (c .before .before .loop-test .taken)
     (omega (arith, c .before .before .before .loop .inv .0, c .before .before .before .loop .inv .2)) (λ e. c .if2 .taken (c .before .slot-at .ensures ∙ e))
-
-add-k : tie.Need-add-k Inv-loop μ-loop
-add-k c = search needs
 
 loop-less : tie.Need-loop-less Inv-loop μ-loop
 loop-less c = omega (arith, c .before .before .loop-test .taken)
@@ -75,16 +54,16 @@ shaft-in-place-spec =
     (tie.spec
     Inv-loop
     μ-loop
-    fillable-rows-requires
-    height-at-requires
-    cast-if1
+    (λ c κs. search needs)
+    (λ c κs. search needs)
+    (λ c. search needs)
     returns
     loop-holds
-    mul-slot-at
-    add-slot-at
-    slot-at-requires
+    (λ c. search needs)
+    (λ c. search needs)
+    (λ c κs. search needs)
     returns-2
-    add-k
+    (λ c. search needs)
     loop-less
     loop-again
     returns-3)

@@ -22,17 +22,11 @@ loop-holds : tie.Need-loop-holds Inv-loop μ-loop
 unfolding allBelow
 loop-holds c = (omega arith, refl)
 
-shaft-in-place-requires : tie.Need-shaft-in-place-requires Inv-loop μ-loop
-shaft-in-place-requires c κs = search needs
-
 returns : tie.Need-returns Inv-loop μ-loop
 returns c =
     let a = c .before .before .before .before .args in
     sym (all-fails mostShafts (shaftInPlace (a .m) (a .heights .now) (a .slots .now)) (c .before .before .before .loop .x) (c .before .before .loop-test .taken)
     (sym (c .before .shaft-in-place .ensures) ∙ not-true _ (c .if1 .taken)))
-
-add-x : tie.Need-add-x Inv-loop μ-loop
-add-x c = search needs
 
 loop-less : tie.Need-loop-less Inv-loop μ-loop
 loop-less c = omega (arith, c .before .before .loop-test .taken)
@@ -58,9 +52,9 @@ shafts-in-place-spec =
     Inv-loop
     μ-loop
     loop-holds
-    shaft-in-place-requires
+    (λ c κs. search needs)
     returns
-    add-x
+    (λ c. search needs)
     loop-less
     loop-again
     returns-2)

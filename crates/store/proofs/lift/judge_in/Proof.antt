@@ -7,21 +7,6 @@ use Rattle.store.proofs.Lifting.{judged-in}
 use Rattle.store.proofs.lift.judge_in.Statement.{statement}
 use Rattle.store.proofs.lift.judge_in.Tie as tie
 
-cast-depth-of : tie.Need-cast-depth-of
-cast-depth-of c = search needs
-
-depth-of-requires : tie.Need-depth-of-requires
-depth-of-requires c κs = search needs
-
-height-requires : tie.Need-height-requires
-height-requires c κs = search needs
-
-height-requires-2 : tie.Need-height-requires-2
-height-requires-2 c κs = search needs
-
-judge-requires : tie.Need-judge-requires
-judge-requires c κs = search needs
-
 returns : tie.Need-returns
 returns c =
     let a = c .before .before .before .before .before .args in
@@ -32,9 +17,9 @@ pub judge-in-spec : {M : Type 1} → statement M
 judge-in-spec =
     tie.close
     (tie.spec
-    cast-depth-of
-    depth-of-requires
-    height-requires
-    height-requires-2
-    judge-requires
+    (λ c. search needs)
+    (λ c κs. search needs)
+    (λ c κs. search needs)
+    (λ c κs. search needs)
+    (λ c κs. search needs)
     returns)
