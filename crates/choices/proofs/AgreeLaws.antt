@@ -7,10 +7,9 @@ use native.Mathlib.Omega.{arith}
 use lib.ListN.{length, getD, set, replicate, length-set, length-replicate}
 use lib.Seq.{getD-set-same, getD-set-other}
 use Rattle.store.proofs.Rows.{same-rows, rows-same}
-use Rattle.store.specs.Slots.{held}
+use Rattle.store.specs.Slots.{held, rowsDown}
 use Rattle.placing.specs.declared.Frame.{Frame}
 use Rattle.lifts.specs.Lifting.{heightIn, shown}
-use Rattle.store.specs.Slots.{rowsDown}
 use Rattle.choices.specs.Choices.{AgreeIs, AgreeingIs}
 
 -- the first k slots of shaft x hold the same

@@ -24,7 +24,7 @@ use Rattle.reach.proofs.Reachability.{start-within, beyond, same-occurrences, s
 use Rattle.rules.proofs.RuleLaws.{count-most}
 use Rattle.moves.specs.Written.{Steps}
 use Rattle.placing.specs.declared.Frame.{Frame}
-use Rattle.lifts.specs.Lifting.{mostShafts, mostRows, heightIn}
+use Rattle.lifts.specs.Lifting.{mostShafts, heightIn}
 use Rattle.placing.specs.Frames.{storeOf, Fits}
 use Rattle.placing.proofs.Bottoms.{shaped-fits, stack-onto}
 use Rattle.choices.specs.Choices.{AgreeingIs}

@@ -5,7 +5,6 @@ use Prim.Native.Nat.{ℕ, _≤_, _<_}
 use native.Mathlib.Omega.{arith}
 use lib.ListN.{length}
 use Rattle.stacks.specs.Count.{greatest}
-use Rattle.lifts.specs.Lifting.{mostRows}
 use Rattle.store.specs.declared.Store.{Store}
 use Rattle.store.specs.Slots.{depth, DepthsFit, deepest, cassetteCount, spaceFor, listSpace}
 use Rattle.store.proofs.Acceptance.{accepted-sound}

@@ -12,14 +12,12 @@ use Rattle.stacks.proofs.Bottoms.{onto-length, onto-all, onto-both}
 use Rattle.stacks.proofs.Sums.{everywhere}
 use Rattle.stacks.proofs.RoundLaws.{halfway-after, halfway-less, halfway-more, find}
 use Rattle.store.specs.declared.Store.{Store}
-use Rattle.store.specs.Slots.{height, slot, downward, stack, rowsDown}
+use Rattle.store.specs.Slots.{height, slot, downward, stack, rowsDown, held}
 use Rattle.store.proofs.Rows.{stack-length}
-use Rattle.store.specs.Slots.{held}
 use Rattle.placing.specs.declared.Frame.{Frame}
 use Rattle.lifts.specs.Lifting.{heightIn}
 use Rattle.placing.specs.Frames.{storeOf, depthIn, Held}
 use Rattle.placing.proofs.Bottoms.{rows-length, rows-onto, stack-onto, row-onto}
-use Rattle.store.specs.Slots.{rowsDown}
 use Rattle.choices.specs.Choices.{wantedIn, Stands}
 use Rattle.turns.specs.Turning.{passedRows, OnTheWay}
 

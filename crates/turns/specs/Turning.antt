@@ -5,14 +5,13 @@ use Prim.Native.Nat.{ℕ, suc, _+_, _-_, _≤_, _<_}
 use lib.ListN.{length, set}
 use Rattle.stacks.specs.Run.{Stacks, Usable}
 use Rattle.stacks.specs.Placing.{Halfway}
-use Rattle.store.specs.Slots.{stack}
+use Rattle.store.specs.Slots.{stack, rowsDown}
 use Rattle.store.specs.Sound.{Shaped}
 use Rattle.moves.specs.Went.{Went}
 use Rattle.placing.specs.declared.Frame.{Frame}
 use Rattle.placing.specs.declared.Spot.{Spot}
 use Rattle.lifts.specs.Lifting.{heightIn}
 use Rattle.placing.specs.Frames.{storeOf, depthIn, Held}
-use Rattle.store.specs.Slots.{rowsDown}
 use Rattle.choices.specs.Choices.{wantedIn, Stands}
 use Rattle.turns.specs.declared.Owed.{Owed}
 use Rattle.turns.specs.declared.Turned.{Turned}
