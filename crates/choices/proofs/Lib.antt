@@ -1,3 +1,1 @@
-pub mod AgreeLaws
-pub mod FindLaws
 pub mod RoundLaws

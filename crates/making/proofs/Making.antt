@@ -23,13 +23,13 @@ use Rattle.reach.proofs.Agree.{total-agrees, empties-agree}
 use Rattle.reach.proofs.Reachability.{start-within, beyond, same-occurrences, start-floor, goal-floor, rule-floors}
 use Rattle.rules.proofs.RuleLaws.{count-most}
 use Rattle.moves.specs.Written.{Steps}
-use Rattle.placing.specs.declared.Frame.{Frame}
+use Rattle.rooms.specs.declared.Frame.{Frame}
 use Rattle.lifts.specs.Lifting.{mostShafts, heightIn}
-use Rattle.placing.specs.Frames.{storeOf, Fits}
-use Rattle.placing.proofs.Bottoms.{shaped-fits, stack-onto}
-use Rattle.choices.specs.Choices.{AgreeingIs}
+use Rattle.rooms.specs.Frames.{storeOf, Fits}
+use Rattle.rooms.proofs.Bottoms.{shaped-fits, stack-onto}
+use Rattle.finding.specs.Finding.{AgreeingIs}
 use Rattle.turns.specs.Turning.{passedRows, OnTheWay}
-use Rattle.rounds.specs.Serving.{rowsLeft, ArrivedIs}
+use Rattle.rounds.specs.Rounds.{rowsLeft, ArrivedIs}
 use Rattle.turns.proofs.Way.{passed-length}
 use Rattle.making.specs.Made.{MadeIs}
 

@@ -1,12 +1,12 @@
 // The list made, for two stores that can be compared and a goal that can be reached.
-use choices::agree::agreeing;
+use finding::agree::agreeing;
 use lifts::Shaft;
 use lifts::Slots;
 use lifts::slot_at;
 use moves::Hints;
 use moves::put_shift;
-use placing::Frame;
-use rounds::all::play_all;
+use rooms::Frame;
+use rounds::play_all;
 use store::Store;
 use store::empty_slots;
 ghost use mathlib.Core.Path.{_≡_};

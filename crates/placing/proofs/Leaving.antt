@@ -24,13 +24,13 @@ use Rattle.moves.specs.Written.{Steps}
 use Rattle.moves.proofs.Stepping.{steps-none, steps-then}
 use Rattle.store.proofs.Lifting.{can-carry}
 use Rattle.moves.proofs.Carrying.{CarriedOn, carried-on}
-use Rattle.placing.specs.declared.Frame.{Frame}
+use Rattle.rooms.specs.declared.Frame.{Frame}
 use Rattle.placing.specs.declared.leave.Off.{Off}
 use Rattle.lifts.specs.Lifting.{heightIn}
-use Rattle.placing.specs.Frames.{storeOf, depthIn, Fits, Held}
-use Rattle.placing.specs.Rooms.{SomeOutside}
+use Rattle.rooms.specs.Frames.{storeOf, depthIn, Fits, Held}
+use Rattle.rooms.specs.Rooms.{SomeOutside}
 use Rattle.placing.specs.Left.{CanLeave, LeftIs}
-use Rattle.placing.proofs.Bottoms.{rows-length, stack-onto, row-onto, shaped-fits, one-room}
+use Rattle.rooms.proofs.Bottoms.{rows-length, stack-onto, row-onto, shaped-fits, one-room}
 
 -- what stays of a store while the cassette of row y of b leaves it: the rows under it, and every other shaft
 pub staying : Store → ℕ → ℕ → Stacks

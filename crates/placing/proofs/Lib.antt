@@ -1,5 +1,2 @@
-pub mod AheadLaws
-pub mod Bottoms
 pub mod Leaving
-pub mod RoomLaws
 pub mod Underway

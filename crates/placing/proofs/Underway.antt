@@ -25,15 +25,16 @@ use Rattle.moves.specs.Written.{Steps}
 use Rattle.moves.proofs.Stepping.{steps-none, steps-then}
 use Rattle.store.proofs.Lifting.{can-carry}
 use Rattle.moves.proofs.Carrying.{CarriedOn, carried-on}
-use Rattle.placing.specs.declared.Frame.{Frame}
-use Rattle.placing.specs.declared.Lift.{Lift}
-use Rattle.placing.specs.declared.Spot.{Spot}
-use Rattle.placing.specs.declared.ahead.Ahead.{Ahead}
+use Rattle.rooms.specs.declared.Frame.{Frame}
+use Rattle.rooms.specs.declared.Lift.{Lift}
+use Rattle.rooms.specs.declared.Spot.{Spot}
+use Rattle.rooms.specs.declared.ahead.Ahead.{Ahead}
 use Rattle.lifts.specs.Lifting.{heightIn}
-use Rattle.placing.specs.Frames.{storeOf, depthIn, Fits, Held}
-use Rattle.placing.specs.Rooms.{SomeOutside}
-use Rattle.placing.specs.Placed.{CanSee, AheadIs, FollowIs, liftsAhead, CanPlace, PlacedIs}
-use Rattle.placing.proofs.Bottoms.{rows-length, stack-onto, row-onto, legal-allowed, shaped-fits, heights-are, one-room}
+use Rattle.rooms.specs.Frames.{storeOf, depthIn, Fits, Held}
+use Rattle.rooms.specs.Rooms.{SomeOutside}
+use Rattle.rooms.specs.Ahead.{CanSee, AheadIs, FollowIs}
+use Rattle.placing.specs.Placed.{liftsAhead, CanPlace, PlacedIs}
+use Rattle.rooms.proofs.Bottoms.{rows-length, stack-onto, row-onto, legal-allowed, shaped-fits, heights-are, one-room}
 
 -- what stays of a store while the cassette of row y of a goes to row y′ of b: the rows under the two, and every other shaft
 pub kept : Store → ℕ → ℕ → ℕ → ℕ → Stacks

@@ -6,10 +6,10 @@ use Rattle.stacks.specs.Run.{Usable}
 use Rattle.stacks.specs.Placing.{Onto}
 use Rattle.store.specs.Slots.{slot, downward, stack}
 use Rattle.moves.specs.Went.{Went}
-use Rattle.placing.specs.declared.Frame.{Frame}
+use Rattle.rooms.specs.declared.Frame.{Frame}
 use Rattle.placing.specs.declared.leave.Off.{Off}
 use Rattle.lifts.specs.Lifting.{heightIn}
-use Rattle.placing.specs.Frames.{storeOf, depthIn, Held}
+use Rattle.rooms.specs.Frames.{storeOf, depthIn, Held}
 
 -- a cassette stands in row y of b, above the floor
 pub record CanLeave (f : Frame) (heights : List ℕ) (b y : ℕ) : Type 0 where

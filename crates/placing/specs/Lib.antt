@@ -1,4 +1,2 @@
-pub mod Frames
 pub mod Left
 pub mod Placed
-pub mod Rooms

@@ -1,17 +1,17 @@
 // A cassette taken out of its own shaft.
-use crate::Frame;
-use crate::Spot;
-use crate::rooms::aside;
 use lifts::Heights;
 use lifts::Row;
 use lifts::Shaft;
 use lifts::Slots;
 use moves::Hints;
 use moves::put_lift;
+use rooms::Frame;
+use rooms::Spot;
+use rooms::aside;
 ghost use Prim.Native.Nat.{_+_, _-_, _≤_};
 ghost use lib.ListN.{length};
 ghost use Rattle.lifts.specs.Lifting.{heightIn};
-ghost use Rattle.placing.specs.Frames.{Held};
+ghost use Rattle.rooms.specs.Frames.{Held};
 ghost use Rattle.placing.specs.Left.{CanLeave, LeftIs};
 
 // Where the cassette stands now, and the end of the list.

@@ -1,17 +1,17 @@
 // A cassette brought to a row of another shaft.
-use crate::Frame;
-use crate::Spot;
-use crate::ahead::follow;
-use crate::ahead::look_ahead;
-use crate::ahead::next_lift;
 use lifts::Heights;
 use lifts::Shaft;
 use lifts::Slots;
 use moves::Hints;
 use moves::put_lift;
+use rooms::Frame;
+use rooms::Spot;
+use rooms::ahead::follow;
+use rooms::ahead::look_ahead;
+use rooms::ahead::next_lift;
 ghost use Prim.Native.Nat.{_+_, _≤_};
 ghost use lib.ListN.{length};
-ghost use Rattle.placing.specs.Frames.{Held};
+ghost use Rattle.rooms.specs.Frames.{Held};
 ghost use Rattle.placing.specs.Placed.{CanPlace, liftsAhead, PlacedIs};
 
 // Brings the cassette at `from` to the row `to` of another shaft, lift by lift.

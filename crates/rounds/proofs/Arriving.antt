@@ -14,14 +14,16 @@ use Rattle.store.proofs.Rows.{stack-length}
 use Rattle.store.proofs.Views.{same-stacks}
 use Rattle.moves.specs.Written.{Steps}
 use Rattle.moves.proofs.Stepping.{steps-none, steps-then}
-use Rattle.placing.specs.declared.Frame.{Frame}
+use Rattle.rooms.specs.declared.Frame.{Frame}
 use Rattle.lifts.specs.Lifting.{heightIn}
-use Rattle.placing.specs.Frames.{storeOf, Fits}
-use Rattle.placing.proofs.Bottoms.{shaped-fits}
+use Rattle.rooms.specs.Frames.{storeOf, Fits}
+use Rattle.rooms.proofs.Bottoms.{shaped-fits}
 use Rattle.choices.specs.declared.Round.{Round}
-use Rattle.choices.specs.Choices.{Finished, RoundFor, SomeRound}
+use Rattle.finding.specs.Finding.{Finished}
+use Rattle.choices.specs.Choices.{RoundFor, SomeRound}
 use Rattle.turns.specs.Turning.{OnTheWay}
-use Rattle.rounds.specs.Serving.{deepest, OneMore, GrownIs, rowsLeft, ArrivedIs}
+use Rattle.serving.specs.Serving.{deepest, OneMore}
+use Rattle.rounds.specs.Rounds.{GrownIs, rowsLeft, ArrivedIs}
 use Rattle.turns.proofs.Way.{passed-length, somewhere}
 
 -- A row that is not passed is left, and passing it leaves one fewer.

@@ -1,4 +1,2 @@
 pub mod Arriving
-pub mod Bringing
 pub mod Playing
-pub mod Servings

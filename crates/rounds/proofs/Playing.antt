@@ -8,23 +8,25 @@ use Rattle.stacks.proofs.Sums.{everywhere}
 use Rattle.stacks.proofs.RoundLaws.{top-plain}
 use Rattle.stacks.proofs.PlacingLaws.{left-plain}
 use Rattle.moves.proofs.Carrying.{went-none, went-then, went-within}
-use Rattle.placing.specs.declared.Frame.{Frame}
-use Rattle.placing.specs.declared.Spot.{Spot}
+use Rattle.rooms.specs.declared.Frame.{Frame}
+use Rattle.rooms.specs.declared.Spot.{Spot}
 use Rattle.lifts.specs.Lifting.{heightIn}
-use Rattle.placing.specs.Frames.{storeOf, depthIn, Fits, Held}
+use Rattle.rooms.specs.Frames.{storeOf, depthIn, Fits, Held}
 use Rattle.placing.specs.Placed.{liftsAhead, CanPlace, PlacedIs}
-use Rattle.placing.proofs.Bottoms.{rows-length, shaped-fits}
+use Rattle.rooms.proofs.Bottoms.{rows-length, shaped-fits}
 use Rattle.store.proofs.Rows.{stack-length}
 use Rattle.lifts.specs.declared.Shaft.{Shaft}
-use Rattle.choices.specs.Choices.{wantedIn, Stands, Somewhere, RoundFor}
+use Rattle.finding.specs.Finding.{wantedIn, Stands, Somewhere}
+use Rattle.choices.specs.Choices.{RoundFor}
 use Rattle.turns.specs.declared.Owed.{Owed}
 use Rattle.turns.specs.declared.Turned.{Turned}
 use Rattle.turns.specs.Turning.{OnTheWay, Ready}
-use Rattle.rounds.specs.Serving.{deepest, Lent, ServedOwed, ServedIs, CanRestore, GrownIs}
+use Rattle.serving.specs.Serving.{deepest, Lent, ServedOwed, ServedIs}
+use Rattle.rounds.specs.Rounds.{CanRestore, GrownIs}
 use Rattle.turns.proofs.Way.{passed-length, stands-over, done-now, tops-deep, somewhere}
 use Rattle.turns.proofs.Turns.{see}
-use Rattle.rounds.proofs.Bringing.{can-place, one-more-set, way-grown}
-use Rattle.rounds.proofs.Servings.{heights-deepest, already}
+use Rattle.serving.proofs.Bringing.{can-place, one-more-set, way-grown}
+use Rattle.serving.proofs.Servings.{heights-deepest, already}
 
 module _ {f : Frame} {tops goal done heights slots : List ℕ} {c : Shaft} (w : OnTheWay f tops goal done heights slots) (k : CanRestore f tops done (c .0)) where
   pub restore-row : (c .0 < 16) × (heightIn done (c .0) < 16)

@@ -18,14 +18,14 @@ use Rattle.lifts.specs.Carried.{CanCarry}
 use Rattle.moves.specs.Put.{PutIs}
 use Rattle.store.proofs.Lifting.{can-carry}
 use Rattle.moves.proofs.Carrying.{CarriedOn, carried-on, went-none, went-within}
-use Rattle.placing.specs.declared.Frame.{Frame}
-use Rattle.placing.specs.declared.Spot.{Spot}
-use Rattle.placing.specs.declared.ahead.Ahead.{Ahead}
+use Rattle.rooms.specs.declared.Frame.{Frame}
+use Rattle.rooms.specs.declared.Spot.{Spot}
+use Rattle.rooms.specs.declared.ahead.Ahead.{Ahead}
 use Rattle.lifts.specs.Lifting.{heightIn}
-use Rattle.placing.specs.Frames.{storeOf, depthIn, Fits}
-use Rattle.placing.specs.Placed.{CanSee, AheadIs}
-use Rattle.placing.proofs.Bottoms.{rows-length, legal-allowed, shaped-fits}
-use Rattle.choices.specs.Choices.{wantedIn, Stands}
+use Rattle.rooms.specs.Frames.{storeOf, depthIn, Fits}
+use Rattle.rooms.specs.Ahead.{CanSee, AheadIs}
+use Rattle.rooms.proofs.Bottoms.{rows-length, legal-allowed, shaped-fits}
+use Rattle.finding.specs.Finding.{wantedIn, Stands}
 use Rattle.turns.specs.declared.Owed.{Owed}
 use Rattle.turns.specs.Turning.{passedRows, OnTheWay, Ready, ThirdIs, LentIs, OwedIs, TurnedIs}
 use Rattle.turns.proofs.OneLift.{run-one}

@@ -14,11 +14,11 @@ use Rattle.stacks.proofs.RoundLaws.{halfway-after, halfway-less, halfway-more, 
 use Rattle.store.specs.declared.Store.{Store}
 use Rattle.store.specs.Slots.{height, slot, downward, stack, rowsDown, held}
 use Rattle.store.proofs.Rows.{stack-length}
-use Rattle.placing.specs.declared.Frame.{Frame}
+use Rattle.rooms.specs.declared.Frame.{Frame}
 use Rattle.lifts.specs.Lifting.{heightIn}
-use Rattle.placing.specs.Frames.{storeOf, depthIn, Held}
-use Rattle.placing.proofs.Bottoms.{rows-length, rows-onto, stack-onto, row-onto}
-use Rattle.choices.specs.Choices.{wantedIn, Stands}
+use Rattle.rooms.specs.Frames.{storeOf, depthIn, Held}
+use Rattle.rooms.proofs.Bottoms.{rows-length, rows-onto, stack-onto, row-onto}
+use Rattle.finding.specs.Finding.{wantedIn, Stands}
 use Rattle.turns.specs.Turning.{passedRows, OnTheWay}
 
 pub passed-length : (goal done : List ℕ) (x : ℕ) → length (passedRows goal done x) ≡ heightIn done x

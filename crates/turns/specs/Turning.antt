@@ -8,11 +8,11 @@ use Rattle.stacks.specs.Placing.{Halfway}
 use Rattle.store.specs.Slots.{stack, rowsDown}
 use Rattle.store.specs.Sound.{Shaped}
 use Rattle.moves.specs.Went.{Went}
-use Rattle.placing.specs.declared.Frame.{Frame}
-use Rattle.placing.specs.declared.Spot.{Spot}
+use Rattle.rooms.specs.declared.Frame.{Frame}
+use Rattle.rooms.specs.declared.Spot.{Spot}
 use Rattle.lifts.specs.Lifting.{heightIn}
-use Rattle.placing.specs.Frames.{storeOf, depthIn, Held}
-use Rattle.choices.specs.Choices.{wantedIn, Stands}
+use Rattle.rooms.specs.Frames.{storeOf, depthIn, Held}
+use Rattle.finding.specs.Finding.{wantedIn, Stands}
 use Rattle.turns.specs.declared.Owed.{Owed}
 use Rattle.turns.specs.declared.Turned.{Turned}
 

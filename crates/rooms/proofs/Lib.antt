@@ -1,0 +1,3 @@
+pub mod AheadLaws
+pub mod Bottoms
+pub mod RoomLaws

@@ -1,0 +1,2 @@
+pub mod Bringing
+pub mod Servings
