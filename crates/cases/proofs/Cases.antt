@@ -7,11 +7,13 @@ use lib.Dec.{eqb}
 use Rattle.stacks.specs.Count.{sum, greatest, count}
 use Rattle.marks.specs.Cassettes.{mayRepeat, cassetteFault}
 use Rattle.lifts.specs.Lifting.{shown, placedAt, refusalBy}
-use Rattle.store.specs.Accept.{rowsFault, storeFault}
+use Rattle.shafts.specs.Rows.{rowsFault, rowsUp, rowsDown}
+use Rattle.store.specs.Accept.{storeFault}
 use Rattle.store.specs.Lifts.{liftRefusal, lifted, liftNumber}
 use Rattle.store.specs.Lists.{Leads}
 use Rattle.replay.specs.Replaying.{replayFrom}
-use Rattle.store.specs.Slots.{depthBy, deepest, rowsUp, rowsDown, cassettesBelow, cassettes, cassetteCount, emptyCount, listSpace}
+use Rattle.shafts.specs.Depths.{depthBy}
+use Rattle.store.specs.Slots.{deepest, cassettesBelow, cassettes, cassetteCount, emptyCount, listSpace}
 use Rattle.marks.proofs.Faulted.{both-true}
 use Rattle.replay.proofs.Replays.{leads-replay}
 use Rattle.bits.specs.Fields.{bits, packed, bitsOf, bytesOf, nextField}

@@ -7,7 +7,8 @@ use native.Mathlib.Omega.{arith}
 use lib.ListN.{length, getD, set, replicate, length-set, length-replicate}
 use lib.Seq.{getD-set-same, getD-set-other}
 use Rattle.store.proofs.Rows.{same-rows, rows-same}
-use Rattle.store.specs.Slots.{held, rowsDown}
+use Rattle.store.specs.Slots.{held}
+use Rattle.shafts.specs.Rows.{rowsDown}
 use Rattle.rooms.specs.declared.Frame.{Frame}
 use Rattle.lifts.specs.Lifting.{heightIn, shown}
 use Rattle.finding.specs.Finding.{AgreeIs, AgreeingIs}

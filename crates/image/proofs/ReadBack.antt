@@ -13,10 +13,12 @@ use Rattle.marks.specs.Cassettes.{numbers, cassetteFault}
 use Rattle.marks.proofs.Faulted.{first-none}
 use Rattle.lifts.specs.Lifting.{mostShafts, mostRows, slotCount, shown}
 use Rattle.store.specs.declared.Store.{Store}
-use Rattle.store.specs.Slots.{depth, height, slot, rowsUp, upward, cassettesBelow}
-use Rattle.store.specs.Accept.{rowsFault, shaftFault, shaftsFault}
+use Rattle.store.specs.Slots.{depth, height, slot, upward, cassettesBelow}
+use Rattle.shafts.specs.Rows.{rowsUp, rowsFault}
+use Rattle.store.specs.Accept.{shaftFault, shaftsFault}
 use Rattle.store.specs.Sound.{Shaped}
-use Rattle.store.proofs.Walk.{row-none, not-too-high}
+use Rattle.shafts.proofs.Walk.{row-none}
+use Rattle.store.proofs.Walk.{not-too-high}
 use Rattle.image.specs.Image.{heightWidth, cassetteWidth, columnBits, columnsBits, shaftBits, shaftsBits}
 use Rattle.image.specs.Reading.{Rest, unless, placed, raised, takeCassette, readRow, readRows, readColumn, readShaft, readShafts}
 use Rattle.image.proofs.Cut.{cutAt, cut, cut-set, cut-over}

@@ -23,7 +23,8 @@ use Rattle.store.specs.Slots.{depth, height, slot, cassettesBelow, cassettes, c
 use Rattle.store.specs.Accept.{allShown, inPlace, shaftsFault, storeFault, Accepted}
 use Rattle.store.specs.Sound.{Shaped}
 use Rattle.store.proofs.Acceptance.{accepted-sound}
-use Rattle.store.proofs.InPlace.{depth-some, depth-most, depth-least, rows-most, shaped-in-place}
+use Rattle.shafts.proofs.InPlace.{depth-some, depth-most, depth-least, rows-most}
+use Rattle.store.proofs.InPlace.{shaped-in-place}
 use Rattle.store.proofs.Typed.{shown-at}
 use Rattle.image.specs.Image.{formWidth, frameWidth, headBits, shaftsBits, imageBits, imageLength, imageOf}
 use Rattle.image.specs.Reading.{Reading, emptyStore, next, padding, endFault, finish, readBody, readDepth, readSize, readForm, readImage}

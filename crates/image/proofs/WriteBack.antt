@@ -15,10 +15,12 @@ use Rattle.marks.specs.Cassettes.{numbers, cassetteFault}
 use Rattle.marks.proofs.Faulted.{given-none}
 use Rattle.lifts.specs.Lifting.{mostShafts, mostRows, slotCount, shown}
 use Rattle.store.specs.declared.Store.{Store}
-use Rattle.store.specs.Slots.{depth, height, slot, rowsUp, upward, cassettesBelow}
-use Rattle.store.specs.Accept.{rowsFault, shaftsFault}
+use Rattle.store.specs.Slots.{depth, height, slot, upward, cassettesBelow}
+use Rattle.shafts.specs.Rows.{rowsUp, rowsFault}
+use Rattle.store.specs.Accept.{shaftsFault}
 use Rattle.store.proofs.Typed.{numbered-set}
-use Rattle.store.proofs.Walk.{row-passed, shaft-passed, by-rows}
+use Rattle.shafts.proofs.Walk.{row-passed}
+use Rattle.store.proofs.Walk.{shaft-passed, by-rows}
 use Rattle.image.specs.Image.{heightWidth, cassetteWidth, columnBits, columnsBits, shaftBits, shaftsBits}
 use Rattle.image.specs.Reading.{Rest, raised, takeCassette, readRow, readRows, readColumn, readShaft, readShafts}
 use Rattle.image.proofs.Cut.{cutAt, cut, cut-below, cut-before, cut-cut, low-set, low-over, low-zero, rows-agree}

@@ -6,7 +6,8 @@ use native.Mathlib.Omega.{arith}
 use lib.ListN.{length}
 use Rattle.stacks.specs.Count.{greatest}
 use Rattle.store.specs.declared.Store.{Store}
-use Rattle.store.specs.Slots.{depth, DepthsFit, deepest, cassetteCount, spaceFor, listSpace}
+use Rattle.store.specs.Slots.{depth, deepest, cassetteCount, listSpace}
+use Rattle.shafts.specs.Depths.{DepthsFit, spaceFor}
 use Rattle.store.proofs.Acceptance.{accepted-sound}
 use Rattle.reach.specs.Pairs.{Comparable}
 use Rattle.reach.specs.Rules.{Rule}

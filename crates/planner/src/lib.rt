@@ -6,8 +6,8 @@ use pairs::Pair;
 use pairs::PairFault;
 use pairs::compare;
 use rules::rule::rule_holds;
+use shafts::list_space;
 use store::Store;
-use store::list_space;
 ghost use mathlib.Core.Path.{_≡_};
 ghost use Rattle.planner.specs.Promises.{RefusedPlan, PlanIs};
 

@@ -10,7 +10,8 @@ use Rattle.stacks.specs.Count.{count, occurrences, total, empties, lowest}
 use Rattle.stacks.specs.TwoStackReading.{twoStackReading}
 use Rattle.stacks.proofs.Counts.{count-append}
 use Rattle.store.specs.declared.Store.{Store}
-use Rattle.store.specs.Slots.{depth, height, slot, rowsUp, upward, downward, stack, cassettesBelow, cassettes, cassetteCount, emptyCount, rowsDown}
+use Rattle.store.specs.Slots.{depth, height, slot, upward, downward, stack, cassettesBelow, cassettes, cassetteCount, emptyCount}
+use Rattle.shafts.specs.Rows.{rowsUp, rowsDown}
 use Rattle.store.specs.Sound.{Shaped}
 use Rattle.store.proofs.Rows.{stack-length}
 use Rattle.reach.specs.Rules.{twoShaftReading, floor}

@@ -9,10 +9,10 @@ use native.Mathlib.Omega.{arith}
 use lib.Dec.{eqb}
 use Rattle.store.specs.declared.Store.{Store}
 use Rattle.store.specs.Slots.{upward}
-use Rattle.store.specs.Accept.{allBelow}
+use Rattle.shafts.specs.InPlace.{allBelow}
 use Rattle.store.specs.Lists.{Reachable}
 use Rattle.marks.proofs.Faulted.{both-true}
-use Rattle.store.proofs.AllBelow.{all-true, all-of}
+use Rattle.shafts.proofs.AllBelow.{all-true, all-of}
 use Rattle.stacks.specs.Deciding.{Decides}
 use Rattle.reach.specs.Pairs.{Comparable}
 use Rattle.reach.specs.Rules.{twoShaftReading, floor, RuleFor, Rule}

@@ -7,7 +7,8 @@ use lib.ListN.{length, drop}
 use Rattle.marks.specs.Marking.{Marked}
 use Rattle.lifts.specs.Lifting.{mostShafts, mostRows}
 use Rattle.store.specs.declared.Store.{Store}
-use Rattle.store.specs.Slots.{held, DepthsFit}
+use Rattle.store.specs.Slots.{held}
+use Rattle.shafts.specs.Depths.{DepthsFit}
 use Rattle.bits.specs.Fields.{bitsOf}
 use Rattle.image.specs.Image.{heightWidth, cassetteWidth}
 use Rattle.image.specs.Reading.{Reading, Rest, Part, emptyStore, unless, next, takeCassette, readRows, readColumn, readShafts, finish, readForm, readSize, readBody, readImage}

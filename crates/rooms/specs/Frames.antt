@@ -5,7 +5,8 @@ use Prim.Native.Nat.{ℕ, _+_, _≤_}
 use Rattle.stacks.specs.Count.{sum, total}
 use Rattle.lifts.specs.Lifting.{mostShafts, mostRows, heightIn}
 use Rattle.store.specs.declared.Store.{Store}
-use Rattle.store.specs.Slots.{held, depthBy, stack}
+use Rattle.store.specs.Slots.{held, stack}
+use Rattle.shafts.specs.Depths.{depthBy}
 use Rattle.store.specs.Sound.{Shaped}
 use Rattle.rooms.specs.declared.Frame.{Frame}
 

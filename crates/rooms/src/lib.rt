@@ -4,7 +4,7 @@ pub mod ahead;
 use lifts::Heights;
 use lifts::Row;
 use lifts::Shaft;
-use store::depth_of;
+use shafts::depth_of;
 ghost use mathlib.Core.Path.{_≡_};
 ghost use Prim.Native.Nat.{_+_};
 ghost use lib.Dec.{ltb};

@@ -1,5 +1,4 @@
 pub mod Acceptance
-pub mod AllBelow
 pub mod Checks
 pub mod InPlace
 pub mod Lifting

@@ -17,9 +17,11 @@ use Rattle.marks.proofs.MarkLaws.{Below}
 use Rattle.marks.proofs.Takes.{taken-cassette, cassette-taken}
 use Rattle.lifts.specs.Lifting.{shown}
 use Rattle.store.specs.declared.Store.{Store}
-use Rattle.store.specs.Slots.{depth, height, slot, rowsUp, upward, cassettesBelow}
-use Rattle.store.specs.Accept.{rowsFault, shaftFault, shaftsFault}
-use Rattle.store.proofs.Walk.{row-after, row-passed, shaft-passed, by-rows, not-too-high}
+use Rattle.store.specs.Slots.{depth, height, slot, upward, cassettesBelow}
+use Rattle.shafts.specs.Rows.{rowsUp, rowsFault}
+use Rattle.store.specs.Accept.{shaftFault, shaftsFault}
+use Rattle.shafts.proofs.Walk.{row-after, row-passed}
+use Rattle.store.proofs.Walk.{shaft-passed, by-rows, not-too-high}
 
 -- no number stands twice in a list that may not
 abbrev Once : List ℕ → Type 0

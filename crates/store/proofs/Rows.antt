@@ -8,7 +8,8 @@ use lib.ListN.{length, getD}
 use Rattle.marks.specs.Cassettes.{numbers}
 use Rattle.lifts.specs.Lifting.{shown, placedAt}
 use Rattle.store.specs.declared.Store.{Store}
-use Rattle.store.specs.Slots.{height, slot, downward, stack, rowsDown}
+use Rattle.store.specs.Slots.{height, slot, downward, stack}
+use Rattle.shafts.specs.Rows.{rowsDown}
 use Rattle.store.proofs.Typed.{numbered-set}
 
 -- slots of which one row is written

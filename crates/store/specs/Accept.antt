@@ -1,40 +1,17 @@
 -- When a store given as a value is accepted, and else which of the numbers 12, 3, 4, 5, 6 refuses it (document 01, "Refused because of the input" and
 -- "Which comes first": "A store given as a value is checked for 12, then for 3, 4, 5 and 6 in image order"). 0 is no fault.
-use mathlib.Core.Bool.{Bool, true, not, _&&_, _||_}
-use mathlib.Core.List.{List, [], _∷_, _++_}
+use mathlib.Core.Bool.{Bool, true, not, _&&_}
+use mathlib.Core.List.{List, [], _∷_}
 use mathlib.Core.Path.{_≡_}
 use Prim.Native.Nat.{ℕ, zero, suc}
 use lib.ListN.{length}
-use lib.Dec.{leb, ltb, eqb}
-use Rattle.marks.specs.Cassettes.{numbers, given, first, cassetteFault}
-use Rattle.lifts.specs.Lifting.{mostShafts, mostRows, slotCount, heightIn, shown}
+use lib.Dec.{ltb, eqb}
+use Rattle.marks.specs.Cassettes.{numbers, given, first}
+use Rattle.lifts.specs.Lifting.{mostShafts, slotCount}
+use Rattle.shafts.specs.InPlace.{allBelow, shaftInPlace, frameInRange}
+use Rattle.shafts.specs.Rows.{rowsFault}
 use Rattle.store.specs.declared.Store.{Store}
-use Rattle.store.specs.Slots.{depth, height, rowsUp, cassettesBelow, cassetteCount}
-
--- a test of every number below n
-unfoldable pub allBelow : ℕ → (ℕ → Bool) → Bool
-allBelow zero p = true
-allBelow (suc n) p = allBelow n p && p n
-
--- how many slots of shaft x may hold something: as many as its height says, none where the shaft is not below m
-abbrev pub fillable : ℕ → List ℕ → ℕ → ℕ
-fillable m heights x = given (ltb x m) (heightIn heights x)
-
--- row k + 1 of shaft x holds nothing, or may hold something
-abbrev pub slotInPlace : ℕ → List ℕ → List ℕ → ℕ → ℕ → Bool
-slotInPlace m heights slots x k = ltb k (fillable m heights x) || eqb (shown slots x (suc k)) 0
-
--- nothing is recorded above the height of shaft x, nor for it where it is not below m
-unfoldable pub shaftInPlace : ℕ → List ℕ → List ℕ → ℕ → Bool
-unfolding allBelow
-shaftInPlace m heights slots x = leb (heightIn heights x) (fillable m heights x) && allBelow mostRows (slotInPlace m heights slots x)
-
--- "m or h outside 1 to 16"
-abbrev pub inRange : ℕ → Bool
-inRange k = ltb 0 k && leb k 16
-
-abbrev pub frameInRange : ℕ → ℕ → Bool
-frameInRange m h = inRange m && inRange h
+use Rattle.store.specs.Slots.{depth, height, cassettesBelow, cassetteCount}
 
 -- every number of a list is one that a slot may show
 unfoldable pub allShown : List ℕ → Bool
@@ -50,11 +27,6 @@ typed s = (eqb (length (s .heights)) mostShafts && eqb (length (s .slots)) slotC
 unfoldable pub inPlace : Store → Bool
 unfolding allBelow shaftInPlace allShown
 inPlace s = (frameInRange (s .m) (s .h) && typed s) && allBelow mostShafts (shaftInPlace (s .m) (s .heights) (s .slots))
-
--- the first fault of rows 1 to k of shaft x, after the cassettes `before`
-unfoldable pub rowsFault : List ℕ → List ℕ → ℕ → ℕ → ℕ
-rowsFault before slots x zero = 0
-rowsFault before slots x (suc k) = first (rowsFault before slots x k) (cassetteFault (before ++ rowsUp slots x k) (shown slots x (suc k)))
 
 -- "3. A height above h.", and then the faults of the rows
 abbrev pub shaftFault : Store → ℕ → ℕ

@@ -1,29 +1,24 @@
 -- The store, slot by slot (document 000, Definition 3.1; document 01, "The store"). A store value has m shafts of depth h, counted from 0; a height
 -- for each shaft; and a number for each slot, 16 slots for a shaft, from row 1 at the bottom.
 use mathlib.Core.Bool.{Bool, cond, _&&_}
-use mathlib.Core.List.{List, [], _∷_, _++_}
+use mathlib.Core.List.{List, [], _++_}
 use mathlib.Core.Path.{_≡_}
-use Prim.Native.Nat.{ℕ, zero, suc, _+_, _-_, _*_, _≤_}
+use Prim.Native.Nat.{ℕ, zero, suc, _+_, _-_}
 use lib.Dec.{leb, ltb}
 use lib.ListN.{length}
 use Rattle.stacks.specs.Count.{sum, greatest}
 use Rattle.lifts.specs.Lifting.{mostShafts, mostRows, heightIn, shown}
+use Rattle.shafts.specs.Depths.{depthBy, spaceFor}
+use Rattle.shafts.specs.Rows.{rowsUp, rowsDown}
 use Rattle.store.specs.declared.Store.{Store}
 
 -- a store of its parts
 abbrev pub held : ℕ → ℕ → List ℕ → List ℕ → Store
 held m h heights slots = record { m = m; h = h; heights = heights; slots = slots }
 
--- "all of depth h": the depth of shaft x
-unfoldable pub depthBy : ℕ → ℕ → ℕ
-depthBy h x = h
-
+-- the depth of shaft x
 abbrev pub depth : Store → ℕ → ℕ
 depth s x = depthBy (s .h) x
-
--- no shaft is deeper than the arrays have rows
-abbrev pub DepthsFit : ℕ → Type 0
-DepthsFit h = (x : ℕ) → depthBy h x ≤ mostRows
 
 -- the depth of the deepest shaft
 unfoldable pub deepest : Store → ℕ
@@ -49,18 +44,9 @@ hasSlot s x y = ((ltb x (s .m) && ltb x mostShafts) && ltb 0 y) && (leb y (depth
 unfoldable pub contentOf : Store → ℕ → ℕ → ℕ
 contentOf s x y = cond (hasSlot s x y) (slot s x y) 0
 
--- rows 1 to k of shaft x in a list of slots, read upward
-unfoldable pub rowsUp : List ℕ → ℕ → ℕ → List ℕ
-rowsUp slots x zero = []
-rowsUp slots x (suc k) = rowsUp slots x k ++ (shown slots x (suc k) ∷ [])
-
+-- rows 1 to k of shaft x, read upward and downward
 abbrev pub upward : Store → ℕ → ℕ → List ℕ
 upward s = rowsUp (s .slots)
-
--- and read downward
-unfoldable pub rowsDown : List ℕ → ℕ → ℕ → List ℕ
-rowsDown slots x zero = []
-rowsDown slots x (suc k) = shown slots x (suc k) ∷ rowsDown slots x k
 
 abbrev pub downward : Store → ℕ → ℕ → List ℕ
 downward s = rowsDown (s .slots)
@@ -89,10 +75,7 @@ unfoldable pub emptyCount : Store → ℕ
 unfolding cassetteCount
 emptyCount s = sum (s .m) (depth s) - cassetteCount s
 
--- "The list space needed is 4hn + 8n bytes": h is the depth of the deepest shaft
-abbrev pub spaceFor : ℕ → ℕ → ℕ
-spaceFor h n = 4 * h * n + 8 * n
-
+-- "The list space needed is 4hn + 8n bytes"
 unfoldable pub listSpace : Store → ℕ
 unfolding cassetteCount deepest
 listSpace s = spaceFor (deepest s) (cassetteCount s)

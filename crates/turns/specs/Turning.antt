@@ -5,7 +5,8 @@ use Prim.Native.Nat.{ℕ, suc, _+_, _-_, _≤_, _<_}
 use lib.ListN.{length, set}
 use Rattle.stacks.specs.Run.{Stacks, Usable}
 use Rattle.stacks.specs.Placing.{Halfway}
-use Rattle.store.specs.Slots.{stack, rowsDown}
+use Rattle.store.specs.Slots.{stack}
+use Rattle.shafts.specs.Rows.{rowsDown}
 use Rattle.store.specs.Sound.{Shaped}
 use Rattle.moves.specs.Went.{Went}
 use Rattle.rooms.specs.declared.Frame.{Frame}

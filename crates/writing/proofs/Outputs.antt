@@ -14,10 +14,10 @@ use Rattle.bits.proofs.Pushed.{pushes-none, pushes-then, holds-none, stored-byt
 use Rattle.bits.proofs.Widths.{length-bits, packed-append}
 use Rattle.lifts.specs.Lifting.{heightIn, shown}
 use Rattle.store.specs.declared.Store.{Store}
-use Rattle.store.specs.Slots.{rowsUp}
+use Rattle.shafts.specs.Rows.{rowsUp}
 use Rattle.store.specs.Accept.{Accepted}
 use Rattle.store.proofs.Acceptance.{accepted-shaped, accepted-sound}
-use Rattle.store.proofs.InPlace.{depth-least}
+use Rattle.shafts.proofs.InPlace.{depth-least}
 use Rattle.image.specs.declared.WriteAnswer.{WriteAnswer}
 use Rattle.image.specs.declared.WriteAnswer.the-variants.{Whole}
 use Rattle.image.specs.declared.Written.{Written}

@@ -16,7 +16,7 @@ ghost use lib.ListN.{length};
 ghost use Rattle.bits.specs.Fields.{packed};
 ghost use Rattle.bits.specs.Pens.{noBits, Pushes};
 ghost use Rattle.lifts.specs.Lifting.{mostShafts, mostRows, heightIn};
-ghost use Rattle.store.specs.Slots.{rowsUp};
+ghost use Rattle.shafts.specs.Rows.{rowsUp};
 ghost use Rattle.image.specs.Image.{cassetteWidth, headBits, columnBits, columnsBits};
 ghost use Rattle.image.specs.Writing.{RefusedWrite, WriteIs};
 ghost use Rattle.writing.specs.Promises.{CountIs, CanWrite};

@@ -6,7 +6,7 @@ use native.Mathlib.Omega.{arith}
 use Rattle.bits.specs.Fields.{packed}
 use Rattle.bits.specs.Pens.{Pushes}
 use Rattle.bits.proofs.Widths.{length-packed}
-use Rattle.store.specs.Slots.{rowsUp}
+use Rattle.shafts.specs.Rows.{rowsUp}
 use Rattle.image.specs.Image.{cassetteWidth}
 use Rattle.image.proofs.Lengths.{length-rows}
 use Rattle.writing.proofs.Outputs.{no-rows, row-more}

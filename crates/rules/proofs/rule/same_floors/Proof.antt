@@ -7,7 +7,8 @@ use Prim.Native.Nat.{ℕ, _-_, _≤_, _<_}
 use native.Mathlib.Omega.{arith}
 use Rattle.stacks.specs.Deciding.{Decides}
 use Rattle.stacks.proofs.Deciding.{holds, fails}
-use Rattle.store.specs.Slots.{depthBy, rowsUp}
+use Rattle.shafts.specs.Depths.{depthBy}
+use Rattle.shafts.specs.Rows.{rowsUp}
 use Rattle.rules.proofs.rule.same_floors.Statement.{statement}
 use Rattle.rules.proofs.rule.same_floors.Tie as tie
 

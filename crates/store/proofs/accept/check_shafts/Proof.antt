@@ -1,11 +1,18 @@
 -- `check_shafts` meets its contract. The invariant: the shafts passed were taken without a fault.
 use borrow.Author.Needs.{needs}
-use mathlib.Core.Path.{_≡_, refl, subst}
+use mathlib.Core.Path.{_≡_, refl, ap, subst}
 use Prim.Native.Nat.{ℕ, _-_, _≤_}
 use native.Mathlib.Numerals.{add-one}
 use native.Mathlib.Omega.{arith}
+use Rattle.marks.specs.Taking.{takenNumber}
+use Rattle.lifts.specs.Lifting.{heightIn}
+use Rattle.shafts.specs.Depths.{depthBy}
+use Rattle.shafts.specs.Rows.{RowsAre}
+use Rattle.store.specs.declared.Fault.{Fault}
+use Rattle.store.specs.declared.Verdict.{Verdict}
+use Rattle.store.specs.Checking.{ShaftsAre}
+use Rattle.store.specs.Numbers.{faultNumber}
 use Rattle.store.specs.Slots.{held}
-use Rattle.store.specs.Checking.{RowsAre}
 use Rattle.store.proofs.Walked.{ShaftsSoFar, no-shafts, shaft-high, shaft-refused, shaft-taken, shafts-taken}
 use Rattle.store.proofs.accept.check_shafts.Statement.{statement}
 use Rattle.store.proofs.accept.check_shafts.Tie as tie
@@ -23,29 +30,36 @@ returns : tie.Need-returns Inv-loop μ-loop
 returns c =
     shaft-high (c .before .before .before .before .loop .inv .2) (c .before .before .before .loop-test .taken) (omega (arith, c .if1 .taken, c .before .depth-of .ensures, c .before .before .height-at .ensures))
 
-check-rows-requires : tie.Need-check-rows-requires Inv-loop μ-loop
-check-rows-requires c κs =
-    let a = c .before .before .before .before .before .before .args in
-    (omega (arith, c .before .before .before .before .loop-test .taken, c .before .before .before .before .before .before .pre .0 .0), omega (arith, c .before .if1 .left, c .before .before .depth-of .ensures, c .before .before .before .before .before .before .pre .0 .1 (c .before .before .before .before .before .loop .x)))
+take-rows-requires : tie.Need-take-rows-requires Inv-loop μ-loop
+take-rows-requires c κs =
+    let l = c .before .before .before .before .before in
+    (omega (arith, c .before .before .before .before .loop-test .taken, l .before .pre .0 .0), omega (arith, c .before .if1 .left, c .before .before .depth-of .ensures, l .before .pre .0 .1 (l .loop .x)))
+
+-- after the rows of a shaft that is not too high were taken
+module _ (a : tie.After-take-rows Inv-loop μ-loop) where
+  fits : heightIn (a .before .before .before .before .before .before .before .args .heights .now) (a .before .before .before .before .before .before .loop .x) ≤ depthBy (a .before .before .before .before .before .before .before .args .h) (a .before .before .before .before .before .before .loop .x)
+  fits = omega (arith, a .before .before .if1 .left, a .before .before .before .depth-of .ensures, a .before .before .before .before .height-at .ensures)
+
+  rows-are : RowsAre (a .before .before .before .before .before .before .loop .marks) (a .before .before .before .before .before .before .before .args .slots .now) (a .before .before .before .before .before .before .loop .x) (heightIn (a .before .before .before .before .before .before .before .args .heights .now) (a .before .before .before .before .before .before .loop .x)) (a .take-rows .last .1 .1 .1 .0) (a .take-rows .result)
+  rows-are = rw (← (a .before .before .before .before .height-at .ensures)) (a .take-rows .ensures)
+
+  refused : (f : Fault) → takenNumber (a .take-rows .result) ≡ faultNumber f → ShaftsAre (held (a .before .before .before .before .before .before .before .args .m) (a .before .before .before .before .before .before .before .args .h) (a .before .before .before .before .before .before .before .args .heights .now) (a .before .before .before .before .before .before .before .args .slots .now)) (a .take-rows .last .1 .1 .1 .0) (Verdict.Refused f)
+  refused f e = shaft-refused (a .before .before .before .before .before .before .loop .inv .2) f (a .before .before .before .before .before .loop-test .taken) fits rows-are e
 
 returns-2 : tie.Need-returns-2 Inv-loop μ-loop
-returns-2 c =
-    shaft-refused (c .before .before .before .before .before .before .before .before .before .loop .inv .2) _ (c .before .before .before .before .before .before .before .before .loop-test .taken) (omega (arith, c .before .before .before .before .before .if1 .left, c .before .before .before .before .before .before .depth-of .ensures, c .before .before .before .before .before .before .before .height-at .ensures))
-    (subst (λ (k : ℕ). RowsAre (c .before .before .before .before .before .before .before .before .before .loop .marks) (c .before .before .before .before .before .before .before .before .before .before .args .slots .now) (c .before .before .before .before .before .before .before .before .before .loop .x) k (c .before .before .before .check-rows .last .1 .1 .1 .0) (c .before .before .before .check-rows .result)) (c .before .before .before .before .before .before .before .height-at .ensures) (c .before .before .before .check-rows .ensures))
-    (c .before .f .given .1)
-
-loop-again : tie.Need-loop-again Inv-loop μ-loop
-loop-again c = (
-  refl,
-  omega (arith, c .before .before .before .before .before .before .before .loop-test .taken),
-  rw add-one
-      (shaft-taken (c .before .before .before .before .before .before .before .before .loop .inv .2) (omega (arith, c .before .before .before .before .if1 .left, c .before .before .before .before .before .depth-of .ensures, c .before .before .before .before .before .before .height-at .ensures))
-      (subst (λ (k : ℕ). RowsAre (c .before .before .before .before .before .before .before .before .loop .marks) (c .before .before .before .before .before .before .before .before .before .args .slots .now) (c .before .before .before .before .before .before .before .before .loop .x) k (c .before .before .check-rows .last .1 .1 .1 .0) (c .before .before .check-rows .result)) (c .before .before .before .before .before .before .height-at .ensures) (c .before .before .check-rows .ensures))
-      (c .enum-told .given .1)),
-)
+returns-2 c = refused (c .before .before) Fault.NumberZero (ap takenNumber (c .enum-told2 .given .1))
 
 returns-3 : tie.Need-returns-3 Inv-loop μ-loop
-returns-3 c =
+returns-3 c = refused (c .before .before) Fault.Twice (ap takenNumber (c .enum-told3 .given .1))
+
+loop-again : tie.Need-loop-again Inv-loop μ-loop
+loop-again c =
+    let a = c .before .before in
+    (refl, omega (arith, a .before .before .before .before .before .loop-test .taken), rw add-one
+    (shaft-taken (a .before .before .before .before .before .before .loop .inv .2) (fits a) (rows-are a) (c .enum-told .given .1)))
+
+returns-4 : tie.Need-returns-4 Inv-loop μ-loop
+returns-4 c =
     let a = c .before .before .args in
     let k : c .before .loop .x ≡ a .m = omega (arith, c .loop-test .left, c .before .loop .inv .1) in
     shafts-taken (subst (λ (n : ℕ). ShaftsSoFar (held (a .m) (a .h) (a .heights .now) (a .slots .now)) n (c .before .loop .marks)) k (c .before .loop .inv .2))
@@ -61,11 +75,13 @@ check-shafts-spec =
     (λ c κs. search needs)
     returns
     (λ c. search needs)
-    check-rows-requires
+    take-rows-requires
+    (λ c. search needs)
     (λ c. search needs)
     returns-2
     (λ c. search needs)
+    returns-3
     (λ c. search needs)
     (λ c. search needs)
     loop-again
-    returns-3)
+    returns-4)

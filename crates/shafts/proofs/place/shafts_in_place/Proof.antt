@@ -7,10 +7,10 @@ use Prim.Native.Nat.{ℕ, _-_, _≤_}
 use native.Mathlib.Numerals.{add-one}
 use native.Mathlib.Omega.{arith}
 use Rattle.lifts.specs.Lifting.{mostShafts}
-use Rattle.store.specs.Accept.{allBelow, shaftInPlace}
-use Rattle.store.proofs.AllBelow.{all-more, all-fails}
-use Rattle.store.proofs.accept.shafts_in_place.Statement.{statement}
-use Rattle.store.proofs.accept.shafts_in_place.Tie as tie
+use Rattle.shafts.specs.InPlace.{allBelow, shaftInPlace}
+use Rattle.shafts.proofs.AllBelow.{all-more, all-fails}
+use Rattle.shafts.proofs.place.shafts_in_place.Statement.{statement}
+use Rattle.shafts.proofs.place.shafts_in_place.Tie as tie
 
 abbrev Inv-loop : tie.InvT-loop
 Inv-loop m heights slots x₀ x = (x ≤ mostShafts) × (allBelow x (shaftInPlace m heights slots) ≡ true)

@@ -1,9 +1,9 @@
 -- `deepest_of` meets its contract: of shafts that all have depth h the deepest has it.
 use mathlib.Core.Path.{sym}
 use Rattle.stacks.proofs.Sums.{greatest-same}
-use Rattle.store.specs.Slots.{depthBy}
-use Rattle.store.proofs.deepest_of.Statement.{statement}
-use Rattle.store.proofs.deepest_of.Tie as tie
+use Rattle.shafts.specs.Depths.{depthBy}
+use Rattle.shafts.proofs.deepest_of.Statement.{statement}
+use Rattle.shafts.proofs.deepest_of.Tie as tie
 
 returns : tie.Need-returns
 unfolding depthBy

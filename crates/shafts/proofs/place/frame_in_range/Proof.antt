@@ -1,8 +1,8 @@
 -- `frame_in_range` meets its contract: each test is one part of `frameInRange`.
 use native.Mathlib.Omega.{arith}
-use Rattle.store.proofs.InPlace.{shafts-none, shafts-above, rows-none, by-rows}
-use Rattle.store.proofs.accept.frame_in_range.Statement.{statement}
-use Rattle.store.proofs.accept.frame_in_range.Tie as tie
+use Rattle.shafts.proofs.InPlace.{shafts-none, shafts-above, rows-none, by-rows}
+use Rattle.shafts.proofs.place.frame_in_range.Statement.{statement}
+use Rattle.shafts.proofs.place.frame_in_range.Tie as tie
 
 returns : tie.Need-returns
 returns c = shafts-none (c .before .args .m) (c .before .args .h) (c .if1 .taken)

@@ -1,8 +1,8 @@
 -- `fillable_rows` meets its contract: the height where the shaft is below m, else none.
 use borrow.Author.Tests.{lt-ltb, le-ltb}
 use borrow.Author.Needs.{needs}
-use Rattle.store.proofs.accept.fillable_rows.Statement.{statement}
-use Rattle.store.proofs.accept.fillable_rows.Tie as tie
+use Rattle.shafts.proofs.place.fillable_rows.Statement.{statement}
+use Rattle.shafts.proofs.place.fillable_rows.Tie as tie
 
 returns : tie.Need-returns
 returns c = simp (lt-ltb (c .before .before .args .x) (c .before .before .args .m) (c .before .if1 .taken)) (c .height-at .ensures)

@@ -5,10 +5,10 @@ use Prim.Native.Nat.{ℕ, suc, _-_, _≤_, _<_}
 use native.Mathlib.Decide.{ℕ-discrete}
 use native.Mathlib.Omega.{arith}
 use Rattle.lifts.specs.Lifting.{heightIn, shown}
-use Rattle.store.specs.Accept.{fillable}
-use Rattle.store.proofs.InPlace.{shaft-past, slot-filled, shaft-fits}
-use Rattle.store.proofs.accept.shaft_in_place.Statement.{statement}
-use Rattle.store.proofs.accept.shaft_in_place.Tie as tie
+use Rattle.shafts.specs.InPlace.{fillable}
+use Rattle.shafts.proofs.InPlace.{shaft-past, slot-filled, shaft-fits}
+use Rattle.shafts.proofs.place.shaft_in_place.Statement.{statement}
+use Rattle.shafts.proofs.place.shaft_in_place.Tie as tie
 
 abbrev Inv-loop : tie.InvT-loop
 Inv-loop m heights slots x rows k₀ k = (rows ≡ fillable m heights x) × (heightIn heights x ≤ rows) × (rows ≤ k) × ((j : ℕ) → rows ≤ j → j < k → shown slots x (suc j) ≡ 0)

@@ -4,10 +4,10 @@ use Prim.Native.Nat.{ℕ, _-_}
 use native.Mathlib.Nat.{mul-le-mul}
 use native.Mathlib.Omega.{arith}
 use Rattle.stacks.proofs.Sums.{sum-same}
-use Rattle.store.specs.Slots.{depthBy}
-use Rattle.store.proofs.InPlace.{rows-most}
-use Rattle.store.proofs.empty_slots.Statement.{statement}
-use Rattle.store.proofs.empty_slots.Tie as tie
+use Rattle.shafts.specs.Depths.{depthBy}
+use Rattle.shafts.proofs.InPlace.{rows-most}
+use Rattle.shafts.proofs.empty_slots.Statement.{statement}
+use Rattle.shafts.proofs.empty_slots.Tie as tie
 
 mul-result : tie.Need-mul-result
 mul-result c = omega (arith, mul-le-mul (c .pre .0 .0) (rows-most (c .args .h) 0 (c .pre .0 .1 0)))

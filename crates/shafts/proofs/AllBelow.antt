@@ -6,7 +6,7 @@ use native.Mathlib.Nat.{not-suc-le-zero}
 use native.Mathlib.Decide.{ℕ-discrete}
 use native.Mathlib.Omega.{arith}
 use Rattle.marks.proofs.Faulted.{both-true}
-use Rattle.store.specs.Accept.{allBelow}
+use Rattle.shafts.specs.InPlace.{allBelow}
 
 pub all-true : (n : ℕ) (p : ℕ → Bool) → allBelow n p ≡ true → (k : ℕ) → k < n → p k ≡ true
 unfolding allBelow

@@ -4,11 +4,11 @@ use Prim.Native.Nat.{ℕ, _*_, _≤_}
 use native.Mathlib.Nat.{mul-le-mul}
 use native.Mathlib.Omega.{arith}
 use Rattle.lifts.specs.Lifting.{mostRows}
-use Rattle.store.specs.Slots.{depthBy, spaceFor}
+use Rattle.shafts.specs.Depths.{depthBy, spaceFor}
 use Rattle.stacks.proofs.Sums.{greatest-le}
 use borrow.Author.Needs.{needs}
-use Rattle.store.proofs.list_space.Statement.{statement}
-use Rattle.store.proofs.list_space.Tie as tie
+use Rattle.shafts.proofs.list_space.Statement.{statement}
+use Rattle.shafts.proofs.list_space.Tie as tie
 
 -- the deepest shaft is no deeper than 16 rows
 four : (c : tie.After-deepest-of) → 4 * c .deepest-of .result ≤ 64

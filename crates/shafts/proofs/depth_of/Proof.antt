@@ -1,8 +1,8 @@
 -- `depth_of` meets its contract: all shafts have depth h.
 use mathlib.Core.Path.{refl}
-use Rattle.store.specs.Slots.{depthBy}
-use Rattle.store.proofs.depth_of.Statement.{statement}
-use Rattle.store.proofs.depth_of.Tie as tie
+use Rattle.shafts.specs.Depths.{depthBy}
+use Rattle.shafts.proofs.depth_of.Statement.{statement}
+use Rattle.shafts.proofs.depth_of.Tie as tie
 
 returns : tie.Need-returns
 unfolding depthBy

@@ -1,0 +1,4 @@
+pub mod AllBelow
+pub mod InPlace
+pub mod Walk
+pub mod Walked
