@@ -1,5 +1,4 @@
 pub mod Bytes
 pub mod Cuts
 pub mod Places
-pub mod Pushed
 pub mod Widths

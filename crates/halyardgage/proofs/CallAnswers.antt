@@ -5,9 +5,9 @@ use Prim.Native.Nat.{ℕ}
 use Rattle.marks.specs.Cassettes.{first}
 use Rattle.marks.proofs.Faulted.{first-stays}
 use Rattle.store.specs.declared.Store.{Store}
-use Rattle.rules.specs.declared.Reach.{Reach}
-use Rattle.rules.specs.Numbers.{reachNumber}
-use Rattle.rules.specs.Promises.{ReachSays}
+use Rattle.reachable.specs.declared.Reach.{Reach}
+use Rattle.reachable.specs.Numbers.{reachNumber}
+use Rattle.reachable.specs.Promises.{ReachSays}
 use Rattle.planner.specs.declared.Planned.{Planned}
 use Rattle.planner.specs.Numbers.{planNumber}
 use Rattle.planner.specs.Promises.{PlanIs}

@@ -10,9 +10,9 @@ use native.Mathlib.Omega.{arith}
 use Rattle.store.specs.Lists.{Reachable}
 use Rattle.store.proofs.Space.{list-space-most}
 use Rattle.reach.specs.Pairs.{Comparable}
-use Rattle.rules.specs.Numbers.{reachNumber}
-use Rattle.rules.specs.Promises.{ReachSays}
-use Rattle.rules.proofs.Exact.{one-reach, yes-exactly, no-exactly, zero-is-yes, fifteen-is-no}
+use Rattle.reachable.specs.Numbers.{reachNumber}
+use Rattle.reachable.specs.Promises.{ReachSays}
+use Rattle.reachable.proofs.Exact.{one-reach, yes-exactly, no-exactly, zero-is-yes, fifteen-is-no}
 use Rattle.planner.specs.Numbers.{planNumber}
 use Rattle.planner.specs.Promises.{PlanSays, Lists}
 use Rattle.planner.proofs.PlanExact.{listed-list, zero-is-listed, fifteen-is-unreachable, number-most}

@@ -9,9 +9,9 @@ use Rattle.store.specs.declared.Store.{Store}
 use Rattle.marks.specs.Cassettes.{given, first}
 use Rattle.replay.specs.Replaying.{replay}
 use Rattle.moves.specs.Written.{written}
-use Rattle.rules.specs.declared.Reach.{Reach}
-use Rattle.rules.specs.Numbers.{reachNumber}
-use Rattle.rules.specs.Promises.{ReachSays}
+use Rattle.reachable.specs.declared.Reach.{Reach}
+use Rattle.reachable.specs.Numbers.{reachNumber}
+use Rattle.reachable.specs.Promises.{ReachSays}
 use Rattle.planner.specs.declared.Planned.{Planned}
 use Rattle.planner.specs.Numbers.{planNumber}
 use Rattle.planner.specs.Promises.{PlanIs}

@@ -1,13 +1,13 @@
 // The calls for the controller's C program, on byte slices (document 01, "calls for the controller's C program on numbers and byte
 // slices"; the header is include/halyardgage.h). Each returns count × 256 + number.
-use image::number::read_number;
+use numbers::end_number;
+use numbers::read_number;
+use pair_numbers::plan_number;
+use pair_numbers::reach_number;
 use planner::make_list;
-use planner::number::plan_number;
+use reachable::reachable;
 use reading::read;
-use replay::end_number;
 use replay::replay;
-use rules::number::reach_number;
-use rules::reachable;
 use store::Store;
 use writing::write;
 ghost use mathlib.Core.Path.{_≡_};

@@ -1,6 +1,5 @@
 // Images of stores (document 01, "The image"): the answers of reading and of writing one. The definitions that the contracts of `reading`
 // and `writing` cite are in specs/; proofs/RoundTrip.antt shows that the two undo each other.
-pub mod number;
 
 use store::Fault;
 use store::Store;

@@ -1,7 +1,7 @@
 // Reads and writes images beyond the proved cases, and prints what each comes to. Held to the file stdout.
-use image::number::read_number;
-use image::number::write_number;
 use libc::STDOUT_FILENO;
+use numbers::read_number;
+use numbers::write_number;
 use reading::read;
 use store::Store;
 use writing::write;

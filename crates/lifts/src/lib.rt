@@ -8,7 +8,7 @@ ghost use Prim.Native.Nat.{_<_};
 ghost use lib.ListN.{getD};
 ghost use Rattle.lifts.specs.Carried.{CanCarry, CarriedIs};
 ghost use Rattle.lifts.specs.Lifting.{mostShafts, slotCount, heightIn, refusalBy};
-ghost use Rattle.lifts.specs.Numbers.{Only, refusalNumber, judgedNumber};
+ghost use Rattle.lifts.specs.Numbers.{Only, judgedNumber};
 
 // "A shaft is counted from 0 and a row from 1, so neither is accepted where the other is due."
 pub struct Shaft(pub u8);
@@ -26,16 +26,6 @@ pub enum Refusal {
     Shafts,
     Empty,
     Full,
-}
-
-pub fn refusal_number(r: Refusal) -> u8
-    ensures { λ n. ⌜ n ≡ refusalNumber r ⌝ }
-{
-    match r {
-        Refusal::Shafts => 11,
-        Refusal::Empty => 13,
-        Refusal::Full => 14,
-    }
 }
 
 // Whether a lift is allowed.

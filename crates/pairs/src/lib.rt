@@ -1,5 +1,4 @@
 // Two stores together (document 01, "Which comes first"): "For two stores: the start, the goal, 8, 9".
-pub mod number;
 
 use marks::count;
 use marks::same;

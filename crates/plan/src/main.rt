@@ -1,14 +1,14 @@
 // The program of document 01, "The program": reads start.img and goal.img in the current directory and prints the list of lifts, or why
 // there is none.
 use image::Read;
-use image::number::read_number;
 use libc::STDOUT_FILENO;
 use lifts::byte::entered_of;
 use lifts::byte::left_of;
+use numbers::read_number;
+use pair_numbers::plan_number;
 use planner::PlanAnswer;
 use planner::Planned;
 use planner::make_list;
-use planner::number::plan_number;
 use reading::read;
 use store::Store;
 ghost use mathlib.Core.Path.{_≡_};

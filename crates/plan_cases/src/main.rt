@@ -2,12 +2,12 @@
 // lifts and whether a replay of the list ends at the goal. Held to the file stdout.
 use check::same;
 use libc::STDOUT_FILENO;
+use numbers::end_number;
+use pair_numbers::plan_number;
+use pair_numbers::reach_number;
 use planner::make_list;
-use planner::number::plan_number;
-use replay::end_number;
+use reachable::reachable;
 use replay::replay;
-use rules::number::reach_number;
-use rules::reachable;
 use store::Store;
 
 fn say(what: &[u8], number: u64) {

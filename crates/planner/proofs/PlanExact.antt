@@ -19,7 +19,7 @@ use Rattle.reach.specs.Tests.{ruleTest}
 use Rattle.reach.proofs.Sets.{comparable-faultless}
 use Rattle.pairs.specs.declared.Pair.{Pair}
 use Rattle.pairs.proofs.PairExact.{fault-numbers, pairTold, pair-told, pair-numbered}
-use Rattle.rules.proofs.Exact.{test-true, test-false}
+use Rattle.reachable.proofs.Exact.{test-true, test-false}
 use Rattle.planner.specs.declared.PlanAnswer.{PlanAnswer}
 use Rattle.planner.specs.declared.Planned.{Planned}
 use Rattle.planner.specs.Numbers.{planNumber}

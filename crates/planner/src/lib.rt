@@ -1,11 +1,10 @@
 // The list maker (document 01, "Which goals can be reached", "Which comes first"): a list of lifts that leads from start to goal.
-pub mod number;
 
 use making::make;
 use pairs::Pair;
 use pairs::PairFault;
 use pairs::compare;
-use rules::rule::rule_holds;
+use rules::rule_holds;
 use shafts::list_space;
 use store::Store;
 ghost use mathlib.Core.Path.{_≡_};

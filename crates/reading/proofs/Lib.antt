@@ -1,4 +1,3 @@
-pub mod Cursors
 pub mod Endings
 pub mod Parts
 pub mod States

@@ -15,9 +15,10 @@ use Rattle.store.specs.Slots.{held}
 use Rattle.shafts.specs.Depths.{depthBy}
 use Rattle.image.specs.Image.{heightWidth, cassetteWidth}
 use Rattle.image.specs.Reading.{Reading, refused, unless, placed, takeCassette, readRows, readColumn, readShafts}
-use Rattle.reading.specs.declared.Cursor.{Cursor}
-use Rattle.reading.specs.Promises.{columnMost, shaftMost, state, left, FieldIs, CassetteRead, RowsRead, ColumnRead, ShaftsRead}
-use Rattle.reading.proofs.Cursors.{stop, unless-one}
+use Rattle.fields.specs.declared.Cursor.{Cursor}
+use Rattle.reading.specs.Promises.{columnMost, shaftMost, state, CassetteRead, RowsRead, ColumnRead, ShaftsRead}
+use Rattle.fields.specs.Cursors.{left, FieldIs}
+use Rattle.fields.proofs.Cursors.{stop, unless-one}
 use Rattle.reading.proofs.States.{reads-none, reads-then, reads-field, reads-kept, reads-fault}
 
 -- a cassette that is refused is not marked

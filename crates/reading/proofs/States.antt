@@ -6,9 +6,10 @@ use native.Mathlib.Omega.{arith}
 use Rattle.marks.specs.Marking.{Marked}
 use Rattle.store.specs.declared.Store.{Store}
 use Rattle.image.specs.Reading.{Rest, Part, refused, unless, next}
-use Rattle.reading.specs.declared.Cursor.{Cursor}
-use Rattle.reading.specs.Promises.{Work, left, Reads, FieldIs}
-use Rattle.reading.proofs.Cursors.{unless-one, both-refused}
+use Rattle.fields.specs.declared.Cursor.{Cursor}
+use Rattle.reading.specs.Promises.{Work, Reads}
+use Rattle.fields.specs.Cursors.{left, FieldIs}
+use Rattle.fields.proofs.Cursors.{unless-one, both-refused}
 
 -- the next field of n bits, and then a part that goes by its value
 abbrev pub fieldThen : ℕ → (ℕ → Part) → Part

@@ -1,19 +1,15 @@
 -- What the parts of a reading promise, by the definitions: each takes the lent arrays and the cursor from one state to another.
-use mathlib.Core.Bool.{Bool}
 use mathlib.Core.List.{List}
 use mathlib.Core.Path.{_≡_}
-use Prim.Native.Nat.{ℕ, _+_, _*_, _^_, _≤_, _<_}
-use lib.ListN.{length, drop}
+use Prim.Native.Nat.{ℕ, _+_, _*_, _≤_}
 use Rattle.marks.specs.Marking.{Marked}
-use Rattle.lifts.specs.Lifting.{mostShafts, mostRows}
+use Rattle.lifts.specs.Lifting.{mostRows}
 use Rattle.store.specs.declared.Store.{Store}
 use Rattle.store.specs.Slots.{held}
-use Rattle.shafts.specs.Depths.{DepthsFit}
-use Rattle.bits.specs.Fields.{bitsOf}
 use Rattle.image.specs.Image.{heightWidth, cassetteWidth}
-use Rattle.image.specs.Reading.{Reading, Rest, Part, emptyStore, unless, next, takeCassette, readRows, readColumn, readShafts, finish, readForm, readSize, readBody, readImage}
-use Rattle.reading.specs.declared.Cursor.{Cursor}
-use Rattle.reading.specs.declared.Head.{Head}
+use Rattle.image.specs.Reading.{Reading, Rest, Part, unless, takeCassette, readRows, readColumn, readShafts, readBody}
+use Rattle.fields.specs.declared.Cursor.{Cursor}
+use Rattle.fields.specs.Cursors.{left, ended}
 
 -- The store read so far, the marks of its cassettes, the bit position, and the number of the first fault met, 0 for none.
 pub record Work : Type 0 where
@@ -25,10 +21,6 @@ pub record Work : Type 0 where
 -- the state of the lent arrays and the cursor
 abbrev pub state : ℕ → ℕ → List ℕ → List ℕ → List ℕ → Cursor → Work
 state m h heights slots words c = record { store = held m h heights slots; words = words; at = c .at; fault = c .fault }
-
--- the bits from a position on
-abbrev pub left : List ℕ → ℕ → List Bool
-left bytes at = drop at (bitsOf bytes)
 
 -- what a reading comes to from the state w, after the cassettes `before`
 abbrev pub going : List ℕ → Work → List ℕ → Rest → Reading
@@ -52,12 +44,6 @@ pub record Reads (bytes : List ℕ) (part : Part) (far : ℕ) (w r : Work) : Typ
   pub after : (before : List ℕ) → Marked (w .words) before → After bytes part w r before
   pub within : r .at ≤ w .at + far
 
--- The next field of n bits took the cursor from c to r: what goes by its value is read from r on.
-pub record FieldIs (bytes : List ℕ) (n : ℕ) (c r : Cursor) : Type 0 where
-  pub same : (k : ℕ → List Bool → Reading) → unless (c .fault) (next n (left bytes (c .at)) k) ≡ unless (r .fault) (k (r .value) (left bytes (r .at)))
-  pub small : r .value < 2 ^ n
-  pub within : r .at ≤ c .at + n
-
 -- A cassette was taken into row k + 1 of shaft x, whatever the rest of the store is.
 pub record CassetteRead (x k : ℕ) (slots words : List ℕ) (c : Cursor) (slots′ words′ : List ℕ) (r : Cursor) : Type 0 where
   pub reads : (bytes : List ℕ) (m h : ℕ) (heights : List ℕ) → Reads bytes (takeCassette x k (c .value)) 0 (state m h heights slots words c) (state m h heights slots′ words′ r)
@@ -74,26 +60,6 @@ pub record ColumnRead (bytes : List ℕ) (h x : ℕ) (heights slots words : List
 -- The shafts below x, of a store of m shafts of depth h, were read.
 pub record ShaftsRead (bytes : List ℕ) (m h x : ℕ) (heights slots words : List ℕ) (c : Cursor) (heights′ slots′ words′ : List ℕ) (r : Cursor) : Type 0 where
   pub reads : Reads bytes (readShafts x) (shaftMost * x) (state m h heights slots words c) (state m h heights′ slots′ words′ r)
-
--- The form took the cursor from c to r.
-pub record FormIs (c r : Cursor) : Type 0 where
-  pub same : (l : List Bool) → unless (c .fault) (readForm (c .value) l) ≡ unless (r .fault) (readSize l)
-  pub place : r .at ≡ c .at
-
--- The fields before the first shaft were read.
-pub record HeadIs (bytes : List ℕ) (r : Head) : Type 0 where
-  pub same : readImage bytes ≡ unless (r .cursor .fault) (readBody (emptyStore (r .m) (r .h)) (left bytes (r .cursor .at)))
-  pub shafts : r .m ≤ mostShafts
-  pub rows : DepthsFit (r .h)
-  pub within : r .cursor .at ≤ 12
-
--- the first fault of a reading that came to its end, or its store
-abbrev pub ended : Cursor → Store → Reading
-ended r s = unless (r .fault) (record { store = s; number = 0 })
-
--- The end of a reading took the cursor from c to r, after n cassettes.
-pub record EndIs (bytes : List ℕ) (n : ℕ) (c r : Cursor) : Type 0 where
-  pub same : (before : List ℕ) (s : Store) → length before ≡ n → unless (c .fault) (finish before s (left bytes (c .at))) ≡ ended r s
 
 -- The shafts and the end took the store from s to t, and the cursor from c to r.
 pub record BodyIs (bytes : List ℕ) (s : Store) (c : Cursor) (t : Store) (r : Cursor) : Type 0 where

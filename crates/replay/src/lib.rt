@@ -9,20 +9,16 @@ use lifts::byte::left_of;
 use lifts::carry;
 use lifts::height_at;
 use lifts::judge;
-use lifts::refusal_number;
 use shafts::depth_of;
 use store::Fault;
 use store::Store;
 use store::Verdict;
-use store::number::fault_number;
-ghost use mathlib.Core.Path.{_≡_};
 ghost use Prim.Native.Nat.{_<_};
 ghost use Rattle.lifts.specs.Lifting.{mostShafts, heightIn, refusalBy};
 ghost use Rattle.lifts.specs.Numbers.{Only, judgedNumber};
 ghost use Rattle.store.specs.Slots.{held};
 ghost use Rattle.shafts.specs.Depths.{depthBy};
 ghost use Rattle.store.specs.Sound.{Shaped};
-ghost use Rattle.replay.specs.Numbers.{endNumber};
 ghost use Rattle.replay.specs.Promises.{ReplayIs};
 ghost use Rattle.replay.specs.Replaying.{replayFrom, replay};
 
@@ -31,17 +27,6 @@ pub enum End {
     RunThrough,
     Stopped(Refusal),
     StoreRefused(Fault),
-}
-
-// The number of document 01 for each end, 0 where nothing is refused.
-pub fn end_number(e: End) -> u8
-    ensures { λ r. ⌜ r ≡ endNumber e ⌝ }
-{
-    match e {
-        End::RunThrough => 0,
-        End::Stopped(r) => refusal_number(r),
-        End::StoreRefused(f) => fault_number(f),
-    }
 }
 
 // The store reached, the count of lifts done, and how the replay ended.

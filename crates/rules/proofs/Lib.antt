@@ -1,4 +1,2 @@
-pub mod Answers
-pub mod Exact
 pub mod Places
 pub mod RuleLaws

@@ -1,41 +1,102 @@
-// The yes or no (document 01, "Which goals can be reached", "Which comes first").
-pub mod number;
-pub mod rule;
-
-use pairs::Pair;
-use pairs::PairFault;
-use pairs::compare;
-use rule::rule_holds;
+// The rules of document 01, "Which goals can be reached", as tests of two stores that can be compared.
+use lifts::Slots;
+use lifts::slot_at;
+use marks::Cassette;
+use shafts::depth_of;
+use shafts::empty_slots;
 use store::Store;
 ghost use mathlib.Core.Path.{_≡_};
-ghost use Rattle.rules.specs.Promises.{yesOrNo, ReachSays};
+ghost use Prim.Native.Nat.{ℕ, _+_, _-_, _≤_, _<_};
+ghost use lib.ListN.{getD};
+ghost use Rattle.stacks.specs.Deciding.{Decides};
+ghost use Rattle.lifts.specs.Lifting.{mostShafts, mostRows};
+ghost use Rattle.store.specs.Slots.{height, cassetteCount};
+ghost use Rattle.shafts.specs.Rows.{rowsUp};
+ghost use Rattle.shafts.specs.Depths.{depthBy, DepthsFit};
+ghost use Rattle.store.specs.Sound.{Shaped};
+ghost use Rattle.reach.specs.Pairs.{Comparable};
+ghost use Rattle.reach.specs.Rules.{twoShaftReading, Rule};
 
-// The yes or no.
-pub enum Reach {
-    Yes,
-    Refused(PairFault),
-    Unreachable,
+// The cassette at a place of the two-shaft reading of n cassettes: shaft 0 upward, then shaft 1 downward.
+fn read_at(s: Store, n: usize, p: usize) -> Cassette
+    requires { ⌜ Shaped s ⌝ }
+    requires { ⌜ (n ≡ height s 0 + height s 1) × (p < n) ⌝ }
+    ensures { λ r. ⌜ r ≡ getD (twoShaftReading s) p 0 ⌝ }
+{
+    let low = s.heights[0] as usize;
+    if p < low {
+        return s.slots[p];
+    }
+    let place = 16 + (n - 1 - p);
+    s.slots[place]
 }
 
-// The answer on stores that can be compared, by whether the rule holds.
-fn yes_or_no(holds: bool) -> Reach
-    ensures { λ r. ⌜ r ≡ yesOrNo holds ⌝ }
+fn same_reading(s: Store, t: Store, n: usize) -> bool
+    requires { ⌜ Shaped s ⌝ }
+    requires { ⌜ Shaped t ⌝ }
+    requires { ⌜ (n ≡ height s 0 + height s 1) × (n ≡ height t 0 + height t 1) ⌝ }
+    ensures { λ r. ⌜ Decides r (twoShaftReading s ≡ twoShaftReading t) ⌝ }
 {
-    if holds {
-        Reach::Yes
-    } else {
-        Reach::Unreachable
+    let mut p: usize = 0;
+    while p < n {
+        if read_at(s, n, p) != read_at(t, n, p) {
+            return false;
+        }
+        p += 1;
     }
+    true
 }
 
-// Whether some list of legal lifts leads from start to goal.
-pub fn reachable(start: Store, goal: Store) -> Reach
-    ensures { λ r. ⌜ ReachSays start goal r ⌝ }
+// Whether rows 1 to k of a shaft agree.
+fn same_rows(a: &Slots, b: &Slots, x: usize, k: usize) -> bool
+    requires { ⌜ (x < mostShafts) × (k ≤ mostRows) ⌝ }
+    ensures { λ r. ⌜ Decides r (rowsUp (now (a .entry)) x k ≡ rowsUp (now (b .entry)) x k) ⌝ }
 {
-    let compared = compare(start, goal);
-    let pair = compared.pair;
-    if let Pair::Refused(f) = pair {
-        return Reach::Refused(f);
+    let mut i: usize = 0;
+    while i < k {
+        if slot_at(a, 16 * x + i) != slot_at(b, 16 * x + i) {
+            return false;
+        }
+        i += 1;
     }
-    yes_or_no(rule_holds(start, goal, compared.n))
+    true
+}
+
+// How many rows of a shaft of depth d never change: d − e, or none.
+fn floor_rows(d: u8, e: usize) -> usize
+    ensures { λ r. ⌜ r ≡ d - e ⌝ }
+{
+    let rows = d as usize;
+    if e < rows { rows - e } else { 0 }
+}
+
+// Whether the rows of the first m shafts that never change agree.
+fn same_floors(m: u8, h: u8, e: usize, a: &Slots, b: &Slots) -> bool
+    requires { ⌜ (m ≤ mostShafts) × DepthsFit h ⌝ }
+    ensures { λ r. ⌜ Decides r ((x : ℕ) → x < m → rowsUp (now (a .entry)) x (depthBy h x - e) ≡ rowsUp (now (b .entry)) x (depthBy h x - e)) ⌝ }
+{
+    let shafts = m as usize;
+    let mut x: usize = 0;
+    while x < shafts {
+        if !same_rows(a, b, x, floor_rows(depth_of(h, x), e)) {
+            return false;
+        }
+        x += 1;
+    }
+    true
+}
+
+// Whether the goal obeys the rule for its number of shafts.
+pub fn rule_holds(start: Store, goal: Store, n: usize) -> bool
+    requires { ⌜ Comparable start goal ⌝ }
+    requires { ⌜ n ≡ cassetteCount start ⌝ }
+    ensures { λ r. ⌜ Decides r (Rule start goal) ⌝ }
+{
+    if start.m <= 2 {
+        return same_reading(start, goal, n);
+    }
+    let e = empty_slots(start.m, start.h, n);
+    let a = start.slots;
+    let b = goal.slots;
+    same_floors(start.m, start.h, e, &a, &b)
 }

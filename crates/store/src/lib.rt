@@ -2,7 +2,6 @@
 // document 000, Definitions 3.1 and 3.2). The definitions that the contracts cite are in specs/.
 pub mod accept;
 pub mod lift;
-pub mod number;
 
 use lifts::Heights;
 use lifts::Refusal;

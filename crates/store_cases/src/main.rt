@@ -2,11 +2,11 @@
 use libc::STDOUT_FILENO;
 use lifts::Row;
 use lifts::Shaft;
-use replay::end_number;
+use numbers::answer_number;
+use numbers::end_number;
+use numbers::verdict_number;
 use replay::replay;
 use store::Store;
-use store::number::answer_number;
-use store::number::verdict_number;
 
 fn say(what: &[u8], number: u8) {
     io::write_all(STDOUT_FILENO, what);

@@ -6,11 +6,11 @@ use Prim.Native.Nat.{ℕ, zero, suc, _+_, _*_, _≤_, _<_}
 use native.Mathlib.Numerals.{add-one}
 use native.Mathlib.Omega.{arith}
 use lib.ListN.{length, getD, drop, length-append, take-append-drop}
-use Rattle.bits.specs.declared.pen.Pen.{Pen}
+use Rattle.pens.specs.declared.Pen.{Pen}
 use Rattle.bits.specs.Fields.{bits, packed, bytesOf}
-use Rattle.bits.specs.Pens.{noBits, Pushes, Pads}
+use Rattle.pens.specs.Pens.{noBits, Pushes, Pads}
 use Rattle.bits.proofs.Bytes.{bytes-agree, padded-agrees}
-use Rattle.bits.proofs.Pushed.{pushes-none, pushes-then, holds-none, stored-bytes}
+use Rattle.pens.proofs.Pushed.{pushes-none, pushes-then, holds-none, stored-bytes}
 use Rattle.bits.proofs.Widths.{length-bits, packed-append}
 use Rattle.lifts.specs.Lifting.{heightIn, shown}
 use Rattle.store.specs.declared.Store.{Store}

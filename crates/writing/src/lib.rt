@@ -1,20 +1,20 @@
 // Writing an image (document 01, "Which comes first"): the store's faults, then 10, and then the fields one after the other.
-use bits::pen::Pen;
-use bits::pen::pad;
-use bits::pen::push;
-use bits::pen::start;
 use image::WriteAnswer;
 use image::Written;
 use lifts::Heights;
 use lifts::Slots;
 use lifts::height_at;
 use lifts::slot_at;
+use pens::Pen;
+use pens::pad;
+use pens::push;
+use pens::start;
 use store::Store;
 use store::Verdict;
 ghost use Prim.Native.Nat.{_+_, _*_, _≤_, _<_};
 ghost use lib.ListN.{length};
 ghost use Rattle.bits.specs.Fields.{packed};
-ghost use Rattle.bits.specs.Pens.{noBits, Pushes};
+ghost use Rattle.pens.specs.Pens.{noBits, Pushes};
 ghost use Rattle.lifts.specs.Lifting.{mostShafts, mostRows, heightIn};
 ghost use Rattle.shafts.specs.Rows.{rowsUp};
 ghost use Rattle.image.specs.Image.{cassetteWidth, headBits, columnBits, columnsBits};

@@ -4,9 +4,9 @@ use mathlib.Core.List.{List}
 use mathlib.Core.Path.{_≡_, ap, subst}
 use Prim.Native.Nat.{ℕ, _-_}
 use native.Mathlib.Omega.{arith}
-use Rattle.bits.specs.declared.pen.Pen.{Pen}
-use Rattle.bits.specs.Pens.{noBits, Pushes}
-use Rattle.bits.proofs.Pushed.{pushes-then}
+use Rattle.pens.specs.declared.Pen.{Pen}
+use Rattle.pens.specs.Pens.{noBits, Pushes}
+use Rattle.pens.proofs.Pushed.{pushes-then}
 use Rattle.bits.proofs.Widths.{length-bits}
 use Rattle.image.specs.Image.{headBits}
 use borrow.Author.Needs.{needs}

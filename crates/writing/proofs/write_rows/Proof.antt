@@ -4,7 +4,7 @@ use mathlib.Core.Path.{_≡_, subst}
 use Prim.Native.Nat.{ℕ, _-_, _≤_}
 use native.Mathlib.Omega.{arith}
 use Rattle.bits.specs.Fields.{packed}
-use Rattle.bits.specs.Pens.{Pushes}
+use Rattle.pens.specs.Pens.{Pushes}
 use Rattle.bits.proofs.Widths.{length-packed}
 use Rattle.shafts.specs.Rows.{rowsUp}
 use Rattle.image.specs.Image.{cassetteWidth}

@@ -2,7 +2,7 @@
 use mathlib.Core.Path.{_≡_, subst}
 use Prim.Native.Nat.{ℕ, _-_, _≤_}
 use native.Mathlib.Omega.{arith}
-use Rattle.bits.specs.Pens.{Pushes}
+use Rattle.pens.specs.Pens.{Pushes}
 use Rattle.image.specs.Image.{columnsBits}
 use Rattle.image.proofs.Lengths.{shafts-within}
 use Rattle.writing.proofs.Outputs.{no-shafts, shaft-more}

@@ -38,10 +38,12 @@ returns c =
 loop-again : tie.Need-loop-again Inv-loop μ-loop
 unfolding shown
 loop-again c =
-    let l = c .before .before .before .before .before .before in
-    (omega (arith, c .before .before .before .before .before .loop-test .taken), rw add-one
-    (row-taken (l .loop .inv .1)
-    (subst₂ (λ (v : ℕ) (r : Taken). TakenIs (l .loop .marks) v (c .before .before .take .last .0) r) (c .before .before .before .slot-at .ensures) (c .enum-told .given .1) (c .before .before .take .ensures))))
+    let l = c .before .before .before .before .before .before in (
+      omega (arith, c .before .before .before .before .before .loop-test .taken),
+      rw add-one
+          (row-taken (l .loop .inv .1)
+          (subst₂ (λ (v : ℕ) (r : Taken). TakenIs (l .loop .marks) v (c .before .before .take .last .0) r) (c .before .before .before .slot-at .ensures) (c .enum-told .given .1) (c .before .before .take .ensures))),
+    )
 
 returns-2 : tie.Need-returns-2 Inv-loop μ-loop
 returns-2 c =

@@ -54,9 +54,12 @@ returns-3 c = refused (c .before .before) Fault.Twice (ap takenNumber (c .enum-t
 
 loop-again : tie.Need-loop-again Inv-loop μ-loop
 loop-again c =
-    let a = c .before .before in
-    (refl, omega (arith, a .before .before .before .before .before .loop-test .taken), rw add-one
-    (shaft-taken (a .before .before .before .before .before .before .loop .inv .2) (fits a) (rows-are a) (c .enum-told .given .1)))
+    let a = c .before .before in (
+      refl,
+      omega (arith, a .before .before .before .before .before .loop-test .taken),
+      rw add-one
+          (shaft-taken (a .before .before .before .before .before .before .loop .inv .2) (fits a) (rows-are a) (c .enum-told .given .1)),
+    )
 
 returns-4 : tie.Need-returns-4 Inv-loop μ-loop
 returns-4 c =

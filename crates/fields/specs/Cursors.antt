@@ -1,0 +1,43 @@
+-- What the next field, the head and the end of an image promise, by the definitions: each takes the cursor from one place to another.
+use mathlib.Core.Bool.{Bool}
+use mathlib.Core.List.{List}
+use mathlib.Core.Path.{_≡_}
+use Prim.Native.Nat.{ℕ, _+_, _^_, _≤_, _<_}
+use lib.ListN.{length, drop}
+use Rattle.lifts.specs.Lifting.{mostShafts}
+use Rattle.store.specs.declared.Store.{Store}
+use Rattle.shafts.specs.Depths.{DepthsFit}
+use Rattle.bits.specs.Fields.{bitsOf}
+use Rattle.image.specs.Reading.{Reading, emptyStore, unless, next, finish, readForm, readSize, readBody, readImage}
+use Rattle.fields.specs.declared.Cursor.{Cursor}
+use Rattle.fields.specs.declared.Head.{Head}
+
+-- the bits from a position on
+abbrev pub left : List ℕ → ℕ → List Bool
+left bytes at = drop at (bitsOf bytes)
+
+-- The next field of n bits took the cursor from c to r: what goes by its value is read from r on.
+pub record FieldIs (bytes : List ℕ) (n : ℕ) (c r : Cursor) : Type 0 where
+  pub same : (k : ℕ → List Bool → Reading) → unless (c .fault) (next n (left bytes (c .at)) k) ≡ unless (r .fault) (k (r .value) (left bytes (r .at)))
+  pub small : r .value < 2 ^ n
+  pub within : r .at ≤ c .at + n
+
+-- The form took the cursor from c to r.
+pub record FormIs (c r : Cursor) : Type 0 where
+  pub same : (l : List Bool) → unless (c .fault) (readForm (c .value) l) ≡ unless (r .fault) (readSize l)
+  pub place : r .at ≡ c .at
+
+-- The fields before the first shaft were read.
+pub record HeadIs (bytes : List ℕ) (r : Head) : Type 0 where
+  pub same : readImage bytes ≡ unless (r .cursor .fault) (readBody (emptyStore (r .m) (r .h)) (left bytes (r .cursor .at)))
+  pub shafts : r .m ≤ mostShafts
+  pub rows : DepthsFit (r .h)
+  pub within : r .cursor .at ≤ 12
+
+-- the first fault of a reading that came to its end, or its store
+abbrev pub ended : Cursor → Store → Reading
+ended r s = unless (r .fault) (record { store = s; number = 0 })
+
+-- The end of a reading took the cursor from c to r, after n cassettes.
+pub record EndIs (bytes : List ℕ) (n : ℕ) (c r : Cursor) : Type 0 where
+  pub same : (before : List ℕ) (s : Store) → length before ≡ n → unless (c .fault) (finish before s (left bytes (c .at))) ≡ ended r s

@@ -1,0 +1,90 @@
+// The number of document 01 for each answer on one store ("Refused because of the input", "Refused because of the state"), 0 where nothing is refused. The definitions
+// are in specs/Numbers.antt of the crate of each answer.
+use image::ReadAnswer;
+use image::WriteAnswer;
+use lifts::Refusal;
+use replay::End;
+use store::Answer;
+use store::Fault;
+use store::Verdict;
+ghost use mathlib.Core.Path.{_≡_};
+ghost use Rattle.lifts.specs.Numbers.{refusalNumber};
+ghost use Rattle.store.specs.Numbers.{faultNumber, verdictNumber, answerNumber};
+ghost use Rattle.replay.specs.Numbers.{endNumber};
+ghost use Rattle.image.specs.Numbers.{readNumber, writeNumber};
+
+pub fn refusal_number(r: Refusal) -> u8
+    ensures { λ n. ⌜ n ≡ refusalNumber r ⌝ }
+{
+    match r {
+        Refusal::Shafts => 11,
+        Refusal::Empty => 13,
+        Refusal::Full => 14,
+    }
+}
+
+pub fn fault_number(f: Fault) -> u8
+    ensures { λ r. ⌜ r ≡ faultNumber f ⌝ }
+{
+    match f {
+        Fault::OutOfPlace => 12,
+        Fault::TooHigh => 3,
+        Fault::NumberZero => 4,
+        Fault::Twice => 5,
+        Fault::TooMany => 6,
+    }
+}
+
+pub fn verdict_number(v: Verdict) -> u8
+    ensures { λ r. ⌜ r ≡ verdictNumber v ⌝ }
+{
+    match v {
+        Verdict::Accepted => 0,
+        Verdict::Refused(f) => fault_number(f),
+    }
+}
+
+pub fn answer_number(a: Answer) -> u8
+    ensures { λ r. ⌜ r ≡ answerNumber a ⌝ }
+{
+    match a {
+        Answer::Done => 0,
+        Answer::StoreRefused(f) => fault_number(f),
+        Answer::LiftRefused(r) => refusal_number(r),
+    }
+}
+
+pub fn end_number(e: End) -> u8
+    ensures { λ r. ⌜ r ≡ endNumber e ⌝ }
+{
+    match e {
+        End::RunThrough => 0,
+        End::Stopped(r) => refusal_number(r),
+        End::StoreRefused(f) => fault_number(f),
+    }
+}
+
+pub fn read_number(a: ReadAnswer) -> u8
+    ensures { λ r. ⌜ r ≡ readNumber a ⌝ }
+{
+    match a {
+        ReadAnswer::Accepted => 0,
+        ReadAnswer::WrongForm => 1,
+        ReadAnswer::Short => 2,
+        ReadAnswer::TooHigh => 3,
+        ReadAnswer::NumberZero => 4,
+        ReadAnswer::Twice => 5,
+        ReadAnswer::TooMany => 6,
+        ReadAnswer::Padding => 7,
+    }
+}
+
+pub fn write_number(a: WriteAnswer) -> u8
+    ensures { λ r. ⌜ r ≡ writeNumber a ⌝ }
+{
+    match a {
+        WriteAnswer::Whole => 0,
+        WriteAnswer::StoreRefused(f) => fault_number(f),
+        WriteAnswer::NoRoom => 10,
+    }
+}
