@@ -83,12 +83,8 @@ fn written(what: &[u8], s: Store, out: &mut [u8]) {
     io::write_all(STDOUT_FILENO, b"\n");
 }
 
-// Reads an image, and prints its number, the store, and how many bytes differ when it is written.
-fn shown(what: &[u8], image: &[u8]) {
-    let got = read(image);
-    let answer = got.answer;
-    say_byte(what, read_number(answer));
-    let s = got.store;
+// The frame of a store and what stands in shafts 0 and 2.
+fn say_store(s: Store) {
     say_byte(b"  m ", s.m);
     say_byte(b"  h ", s.h);
     say_byte(b"  shaft 0 ", s.heights[0]);
@@ -96,6 +92,15 @@ fn shown(what: &[u8], image: &[u8]) {
     say_byte(b" ", s.slots[1]);
     say_byte(b"  shaft 2 ", s.heights[2]);
     say_byte(b": ", s.slots[32]);
+}
+
+// Reads an image, and prints its number, the store, and how many bytes differ when it is written.
+fn shown(what: &[u8], image: &[u8]) {
+    let got = read(image);
+    let answer = got.answer;
+    say_byte(what, read_number(answer));
+    let s = got.store;
+    say_store(s);
     let mut out = [255u8; 300];
     let done = write(s, &mut out);
     say_count(b"  written ", done.count);
@@ -122,25 +127,49 @@ fn fullest() -> Store {
     s
 }
 
-fn main() {
+fn images_read() {
     shown(b"the example: ", b"\x02\x11\x00\x81\x00\x20\x60");
     shown(b"m 1, h 1, empty: ", b"\x00\x00\x00");
+}
+
+fn images_cut() {
     shown(b"no bytes: ", b"");
     shown(b"form 1: ", b"\x10\x00\x00");
     shown(b"01 11: ", b"\x01\x11");
     shown(b"without its last byte: ", b"\x02\x11\x00\x81\x00\x20");
+}
+
+fn images_faulty() {
     shown(b"height 3 of 2: ", b"\x02\x11\x80\x81\x00\x20\x60");
     shown(b"cassette 0: ", b"\x02\x11\x00\x01\x00\x20\x60");
     shown(b"cassette 1 twice: ", b"\x02\x11\x00\x80\x80\x20\x60");
+}
+
+fn images_padded() {
     shown(b"a padding bit: ", b"\x02\x11\x00\x81\x00\x20\x61");
     shown(
         b"a byte after the padding: ",
         b"\x02\x11\x00\x81\x00\x20\x60\x00",
     );
+}
+
+fn stores_written() {
     let mut out = [255u8; 300];
     written(b"m 1, h 1, empty: ", empty(1, 1), &mut out);
     written(b"m 16, h 16, 255 cassettes: ", fullest(), &mut out);
+}
+
+fn stores_refused() {
     let mut kept = [255u8; 2];
     written(b"m 0: ", empty(0, 1), &mut kept);
     written(b"two bytes lent for three: ", empty(1, 1), &mut kept);
+}
+
+fn main() {
+    images_read();
+    images_cut();
+    images_faulty();
+    images_padded();
+    stores_written();
+    stores_refused();
 }

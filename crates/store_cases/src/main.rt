@@ -50,31 +50,39 @@ fn singles() -> Store {
     s
 }
 
-fn check_cases() {
+// The example with another number in a slot, or another height.
+fn with_slot(i: usize, c: u8) -> Store {
+    let mut s = example();
+    if i < 256 {
+        s.slots[i] = c;
+    }
+    s
+}
+
+fn with_height(x: usize, height: u8) -> Store {
+    let mut s = example();
+    if x < 16 {
+        s.heights[x] = height;
+    }
+    s
+}
+
+fn frame_cases() {
     check(b"empty store of m 1, h 1: ", empty(1, 1));
     check(b"m 0: ", empty(0, 1));
     check(b"m 200: ", empty(200, 1));
     check(b"h 0: ", empty(1, 0));
     check(b"h 17: ", empty(1, 17));
+}
+
+fn slot_cases() {
     check(b"the example: ", example());
-    let mut s = example();
-    s.slots[2] = 9;
-    check(b"a slot above the height: ", s);
-    s = example();
-    s.slots[48] = 9;
-    check(b"a slot past m: ", s);
-    s = example();
-    s.heights[3] = 1;
-    check(b"a height past m: ", s);
-    s = example();
-    s.heights[1] = 20;
-    check(b"a height of 20: ", s);
-    s = example();
-    s.slots[0] = 0;
-    check(b"a cassette 0: ", s);
-    s = example();
-    s.slots[32] = 1;
-    check(b"cassette 1 twice: ", s);
+    check(b"a slot above the height: ", with_slot(2, 9));
+    check(b"a slot past m: ", with_slot(48, 9));
+    check(b"a height past m: ", with_height(3, 1));
+    check(b"a height of 20: ", with_height(1, 20));
+    check(b"a cassette 0: ", with_slot(0, 0));
+    check(b"cassette 1 twice: ", with_slot(32, 1));
 }
 
 // Every slot that the value records holds 7.
@@ -144,12 +152,17 @@ fn show_replay(what: &[u8], s: Store, list: &[u8]) {
     say(b"  shaft 0 row 0: ", reached.content(Shaft(0), Row(0)));
 }
 
-fn main() {
-    check_cases();
-    content_cases();
-    lift_cases();
+fn replay_cases() {
     show_replay(b"02 10 21 on [1] [2] []: ", singles(), b"\x02\x10\x21");
     show_replay(b"02 21 00 on [1] [2] []: ", singles(), b"\x02\x21\x00");
     show_replay(b"an empty list on [1] [2] []: ", singles(), b"");
     show_replay(b"02 on a store of m 200: ", empty(200, 1), b"\x02");
+}
+
+fn main() {
+    frame_cases();
+    slot_cases();
+    content_cases();
+    lift_cases();
+    replay_cases();
 }
