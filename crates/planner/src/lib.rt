@@ -8,6 +8,8 @@ use rules::rule_holds;
 use shafts::list_space;
 use store::Store;
 ghost use mathlib.Core.Path.{_≡_};
+ghost use Rattle.store.specs.Slots.{cassetteCount};
+ghost use Rattle.reach.specs.Pairs.{Comparable};
 ghost use Rattle.planner.specs.Promises.{RefusedPlan, PlanIs};
 
 // How the list maker answers: a list, or refused with the fault of the pair, 10 or 15.
@@ -40,16 +42,12 @@ fn listed(count: usize) -> Planned
     }
 }
 
-// Writes a list of lifts that leads from start to goal into the lent bytes, or refuses and writes nothing.
-pub fn make_list(start: Store, goal: Store, out: &mut [u8]) -> Planned
+// For two stores that can be compared, and hold n cassettes: 10, 15, or the list.
+fn plan_pair(start: Store, goal: Store, n: usize, out: &mut [u8]) -> Planned
+    requires { ⌜ Comparable start goal ⌝ }
+    requires { ⌜ n ≡ cassetteCount start ⌝ }
     ensures { λ r. ⌜ PlanIs start goal (now (out .entry)) (now (out .exit)) r ⌝ }
 {
-    let compared = compare(start, goal);
-    let pair = compared.pair;
-    let n = compared.n;
-    if let Pair::Refused(f) = pair {
-        return refused(PlanAnswer::Refused(f), out);
-    }
     if out.len() < list_space(start.m, start.h, n) {
         return refused(PlanAnswer::LittleSpace, out);
     }
@@ -58,4 +56,16 @@ pub fn make_list(start: Store, goal: Store, out: &mut [u8]) -> Planned
     }
     let count = make(start, goal, n, out);
     listed(count)
+}
+
+// Writes a list of lifts that leads from start to goal into the lent bytes, or refuses and writes nothing.
+pub fn make_list(start: Store, goal: Store, out: &mut [u8]) -> Planned
+    ensures { λ r. ⌜ PlanIs start goal (now (out .entry)) (now (out .exit)) r ⌝ }
+{
+    let compared = compare(start, goal);
+    let pair = compared.pair;
+    if let Pair::Refused(f) = pair {
+        return refused(PlanAnswer::Refused(f), out);
+    }
+    plan_pair(start, goal, compared.n, out)
 }
