@@ -2,8 +2,6 @@
 use mathlib.Core.List.{List}
 use mathlib.Core.Path.{_≡_, sym, ap, _∙_, subst₂}
 use Prim.Native.Nat.{ℕ}
-use Rattle.marks.specs.Cassettes.{first}
-use Rattle.marks.proofs.Faulted.{first-stays}
 use Rattle.store.specs.declared.Store.{Store}
 use Rattle.reachable.specs.declared.Reach.{Reach}
 use Rattle.reachable.specs.Numbers.{reachNumber}
@@ -11,27 +9,9 @@ use Rattle.reachable.specs.Promises.{ReachSays}
 use Rattle.planner.specs.declared.Planned.{Planned}
 use Rattle.planner.specs.Numbers.{planNumber}
 use Rattle.planner.specs.Promises.{PlanIs}
-use Rattle.image.specs.Reading.{Reading}
-use Rattle.halyardgage.specs.declared.Both.{Both}
-use Rattle.halyardgage.specs.Calls.{answerOf, RefusedCall, storeIn, readFault, BothAre, ReachGives, ReachCallIs, PlanGives, PlanCallIs}
-use Rattle.halyardgage.proofs.Readings.{Stands}
-
--- a fault of the start's image comes first
-pub start-refused : {a b : List ℕ} {k : ℕ} {s t : Store} → k ≡ readFault a → (k ≡ 0 → ⊥) → BothAre a b (record { number = k; start = s; goal = t })
-start-refused {a} {b} e n = record {
-  number = sym (first-stays (readFault a) (readFault b) (λ z. n (e ∙ z)) ∙ sym e);
-  start = λ z. absurd (n z);
-  goal = λ z. absurd (n z);
-}
-
--- the start is read, and then the goal, or its fault
-pub goal-told : {a b : List ℕ} {k : ℕ} {s t : Store} → Stands a s → k ≡ readFault b → (k ≡ 0 → Stands b t)
-    → BothAre a b (record { number = k; start = s; goal = t })
-goal-told {b = b} p e f = record {
-  number = e ∙ sym (ap (λ (o : Reading). first (o .number) (readFault b)) (p .is));
-  start = λ _. ap (λ (o : Reading). o .store) (sym (p .is));
-  goal = λ z. ap (λ (o : Reading). o .store) (sym (f z .is));
-}
+use Rattle.calls.specs.declared.Both.{Both}
+use Rattle.calls.specs.Shared.{answerOf, RefusedCall, storeIn, BothAre}
+use Rattle.halyardgage.specs.Calls.{ReachGives, ReachCallIs, PlanGives, PlanCallIs}
 
 module _ {a b : List ℕ} {o : Both} (p : BothAre a b o) where
   module _ (n : o .number ≡ 0 → ⊥) where

@@ -17,7 +17,8 @@ use Rattle.planner.specs.Numbers.{planNumber}
 use Rattle.planner.specs.Promises.{PlanSays, Lists}
 use Rattle.planner.proofs.PlanExact.{listed-list, zero-is-listed, fifteen-is-unreachable, number-most}
 use Rattle.image.proofs.Numbers.{number-few, first-few}
-use Rattle.halyardgage.specs.Calls.{answerOf, storeIn, readFault, readFaults, ReachCallIs, PlanGives, PlanCallIs}
+use Rattle.calls.specs.Shared.{answerOf, storeIn, readFault, readFaults}
+use Rattle.halyardgage.specs.Calls.{ReachCallIs, PlanGives, PlanCallIs}
 
 -- faults of reading are 1 to 7
 faults-few : (a b : List ℕ) → readFaults a b ≤ 7

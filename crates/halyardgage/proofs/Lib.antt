@@ -1,5 +1,4 @@
 pub mod CallAnswers
 pub mod CallExact
 pub mod Kept
-pub mod Readings
 pub mod ReplayAnswers

@@ -24,9 +24,10 @@ use Rattle.image.specs.Writing.{bytesAfter, WriteIs}
 use Rattle.image.proofs.Carried.{length-bytes}
 use Rattle.image.proofs.Refused.{not-refused}
 use Rattle.image.proofs.RoundTrip.{read-written}
-use Rattle.halyardgage.specs.Calls.{answerOf, RefusedCall, storeIn, readFault, replayCallFault, ReplayCallIs}
+use Rattle.calls.specs.Shared.{answerOf, RefusedCall, storeIn, readFault}
+use Rattle.halyardgage.specs.Calls.{replayCallFault, ReplayCallIs}
 use Rattle.halyardgage.proofs.Kept.{leads-length, replay-reaches}
-use Rattle.halyardgage.proofs.Readings.{Stands}
+use Rattle.calls.proofs.Readings.{Stands}
 
 length-of-image : (s : Store) → length (imageOf s) ≡ imageLength s
 unfolding imageOf

@@ -1,5 +1,8 @@
 // The calls for the controller's C program, on byte slices (document 01, "calls for the controller's C program on numbers and byte
 // slices"; the header is include/halyardgage.h). Each returns count × 256 + number.
+use calls::answer;
+use calls::read_both;
+use calls::refused;
 use numbers::end_number;
 use numbers::read_number;
 use pair_numbers::plan_number;
@@ -8,24 +11,10 @@ use planner::make_list;
 use reachable::reachable;
 use reading::read;
 use replay::replay;
-use store::Store;
 use writing::write;
 ghost use mathlib.Core.Path.{_≡_};
-ghost use Rattle.halyardgage.specs.Calls.{answerOf, RefusedCall, readFault, BothAre, ReachCallIs, PlanCallIs, ReplayCallIs};
-
-// The two parts of an answer put together.
-fn answer(count: usize, number: u8) -> u64
-    ensures { λ r. ⌜ r ≡ answerOf count number ⌝ }
-{
-    (count as u64) % 72057594037927936 * 256 + (number as u64)
-}
-
-// A refused call on lent bytes: the number alone, and the bytes as they came.
-fn refused(number: u8, out: &mut [u8]) -> u64
-    ensures { λ r. ⌜ RefusedCall number (now (out .entry)) (now (out .exit)) r ⌝ }
-{
-    number as u64
-}
+ghost use Rattle.calls.specs.Shared.{readFault};
+ghost use Rattle.halyardgage.specs.Calls.{ReachCallIs, PlanCallIs, ReplayCallIs};
 
 // Whether an image is accepted.
 #[no_mangle]
@@ -35,38 +24,6 @@ pub extern "C" fn halyard_check(image: &[u8]) -> u64
     let one = read(image);
     let verdict = one.answer;
     read_number(verdict) as u64
-}
-
-// Two images that were read: the number of the first one that is refused, 0 for none, and their stores where none is.
-pub struct Both {
-    pub number: u8,
-    pub start: Store,
-    pub goal: Store,
-}
-
-// "read start first"
-fn read_both(start: &[u8], goal: &[u8]) -> Both
-    ensures { λ r. ⌜ BothAre (now (start .entry)) (now (goal .entry)) r ⌝ }
-{
-    let one = read(start);
-    let first = one.answer;
-    let number = read_number(first);
-    let s = one.store;
-    if number != 0 {
-        return Both {
-            number,
-            start: s,
-            goal: s,
-        };
-    }
-    let two = read(goal);
-    let second = two.answer;
-    let t = two.store;
-    Both {
-        number: read_number(second),
-        start: s,
-        goal: t,
-    }
 }
 
 // Whether some list of legal lifts leads from start to goal.

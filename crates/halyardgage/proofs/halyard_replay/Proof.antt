@@ -3,7 +3,7 @@ use borrow.Author.Needs.{needs}
 use Prim.Native.Nat.{ℕ, _<_}
 use native.Mathlib.Omega.{arith}
 use lib.ListN.{getD}
-use Rattle.halyardgage.proofs.Readings.{Stands, number-read, stands}
+use Rattle.calls.proofs.Readings.{Stands, number-read, stands}
 use Rattle.halyardgage.proofs.ReplayAnswers.{replay-refused, replay-little-space, replay-answered}
 use Rattle.halyardgage.proofs.halyard_replay.Statement.{statement}
 use Rattle.halyardgage.proofs.halyard_replay.Tie as tie

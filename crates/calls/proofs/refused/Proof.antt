@@ -1,7 +1,7 @@
 -- `refused` meets its contract: the lent bytes are as they came.
 use borrow.Author.Needs.{needs}
-use Rattle.halyardgage.proofs.refused.Statement.{statement}
-use Rattle.halyardgage.proofs.refused.Tie as tie
+use Rattle.calls.proofs.refused.Statement.{statement}
+use Rattle.calls.proofs.refused.Tie as tie
 
 returns : tie.Need-returns
 returns c = record { number = search needs; bytes = search needs }

@@ -1,9 +1,8 @@
 -- `read_both` meets its contract: the start's fault, or the goal's, or both stores.
-use Rattle.halyardgage.proofs.CallAnswers.{start-refused, goal-told}
-use Rattle.halyardgage.proofs.Readings.{number-read, stands}
+use Rattle.calls.proofs.Readings.{start-refused, goal-told, number-read, stands}
 use borrow.Author.Needs.{needs}
-use Rattle.halyardgage.proofs.read_both.Statement.{statement}
-use Rattle.halyardgage.proofs.read_both.Tie as tie
+use Rattle.calls.proofs.read_both.Statement.{statement}
+use Rattle.calls.proofs.read_both.Tie as tie
 
 returns : tie.Need-returns
 returns c = start-refused (number-read _ (c .before .before .before .read .ensures) (c .before .before .read-number .ensures)) (c .if1 .taken)
