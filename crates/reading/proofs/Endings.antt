@@ -15,7 +15,8 @@ use Rattle.image.proofs.Answered.{only-read}
 use Rattle.image.proofs.Numbers.{number-few}
 use Rattle.fields.specs.declared.Cursor.{Cursor}
 use Rattle.fields.specs.Cursors.{ended, EndIs}
-use Rattle.reading.specs.Promises.{ShaftsRead, BodyIs}
+use Rattle.columns.specs.Columns.{ShaftsRead}
+use Rattle.reading.specs.Promises.{BodyIs}
 use Rattle.fields.proofs.Cursors.{unless-one}
 
 -- the shafts and the end, from no marks on

@@ -1,65 +1,11 @@
--- What the parts of a reading promise, by the definitions: each takes the lent arrays and the cursor from one state to another.
+-- What the reading of the shafts and the end promises, by the definitions.
 use mathlib.Core.List.{List}
 use mathlib.Core.Path.{_≡_}
-use Prim.Native.Nat.{ℕ, _+_, _*_, _≤_}
-use Rattle.marks.specs.Marking.{Marked}
-use Rattle.lifts.specs.Lifting.{mostRows}
+use Prim.Native.Nat.{ℕ}
 use Rattle.store.specs.declared.Store.{Store}
-use Rattle.store.specs.Slots.{held}
-use Rattle.image.specs.Image.{heightWidth, cassetteWidth}
-use Rattle.image.specs.Reading.{Reading, Rest, Part, unless, takeCassette, readRows, readColumn, readShafts, readBody}
+use Rattle.image.specs.Reading.{unless, readBody}
 use Rattle.fields.specs.declared.Cursor.{Cursor}
 use Rattle.fields.specs.Cursors.{left, ended}
-
--- The store read so far, the marks of its cassettes, the bit position, and the number of the first fault met, 0 for none.
-pub record Work : Type 0 where
-  pub store : Store
-  pub words : List ℕ
-  pub at : ℕ
-  pub fault : ℕ
-
--- the state of the lent arrays and the cursor
-abbrev pub state : ℕ → ℕ → List ℕ → List ℕ → List ℕ → Cursor → Work
-state m h heights slots words c = record { store = held m h heights slots; words = words; at = c .at; fault = c .fault }
-
--- what a reading comes to from the state w, after the cassettes `before`
-abbrev pub going : List ℕ → Work → List ℕ → Rest → Reading
-going bytes w before c = unless (w .fault) (c before (w .store) (left bytes (w .at)))
-
--- the most bits that the rows of a shaft take, and that its height and its rows take
-abbrev pub columnMost : ℕ
-columnMost = cassetteWidth * mostRows
-
-abbrev pub shaftMost : ℕ
-shaftMost = heightWidth + columnMost
-
--- A part of the reading took the state from w to r: what comes after it is read from r on.
-pub record After (bytes : List ℕ) (part : Part) (w r : Work) (before : List ℕ) : Type 0 where
-  pub seen : List ℕ
-  pub marks : Marked (r .words) seen
-  pub same : (c : Rest) → going bytes w before (λ b s l. part b s l c) ≡ going bytes r seen c
-
--- The same, for whatever cassettes came before, with at most `far` bits more.
-pub record Reads (bytes : List ℕ) (part : Part) (far : ℕ) (w r : Work) : Type 0 where
-  pub after : (before : List ℕ) → Marked (w .words) before → After bytes part w r before
-  pub within : r .at ≤ w .at + far
-
--- A cassette was taken into row k + 1 of shaft x, whatever the rest of the store is.
-pub record CassetteRead (x k : ℕ) (slots words : List ℕ) (c : Cursor) (slots′ words′ : List ℕ) (r : Cursor) : Type 0 where
-  pub reads : (bytes : List ℕ) (m h : ℕ) (heights : List ℕ) → Reads bytes (takeCassette x k (c .value)) 0 (state m h heights slots words c) (state m h heights slots′ words′ r)
-
--- The first rows of shaft x were read, each a field of n bits.
-pub record RowsRead (bytes : List ℕ) (n x rows : ℕ) (slots words : List ℕ) (c : Cursor) (slots′ words′ : List ℕ) (r : Cursor) : Type 0 where
-  pub reads : (m h : ℕ) (heights : List ℕ)
-      → Reads bytes (readRows n x rows) (n * rows) (state m h heights slots words c) (state m h heights slots′ words′ r)
-
--- Shaft x, of a store of depth h, was read from its height on.
-pub record ColumnRead (bytes : List ℕ) (h x : ℕ) (heights slots words : List ℕ) (c : Cursor) (heights′ slots′ words′ : List ℕ) (r : Cursor) : Type 0 where
-  pub reads : (m : ℕ) → Reads bytes (readColumn x (c .value)) columnMost (state m h heights slots words c) (state m h heights′ slots′ words′ r)
-
--- The shafts below x, of a store of m shafts of depth h, were read.
-pub record ShaftsRead (bytes : List ℕ) (m h x : ℕ) (heights slots words : List ℕ) (c : Cursor) (heights′ slots′ words′ : List ℕ) (r : Cursor) : Type 0 where
-  pub reads : Reads bytes (readShafts x) (shaftMost * x) (state m h heights slots words c) (state m h heights′ slots′ words′ r)
 
 -- The shafts and the end took the store from s to t, and the cursor from c to r.
 pub record BodyIs (bytes : List ℕ) (s : Store) (c : Cursor) (t : Store) (r : Cursor) : Type 0 where

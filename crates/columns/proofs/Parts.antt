@@ -16,10 +16,10 @@ use Rattle.shafts.specs.Depths.{depthBy}
 use Rattle.image.specs.Image.{heightWidth, cassetteWidth}
 use Rattle.image.specs.Reading.{Reading, refused, unless, placed, takeCassette, readRows, readColumn, readShafts}
 use Rattle.fields.specs.declared.Cursor.{Cursor}
-use Rattle.reading.specs.Promises.{columnMost, shaftMost, state, CassetteRead, RowsRead, ColumnRead, ShaftsRead}
+use Rattle.columns.specs.Columns.{columnMost, shaftMost, state, CassetteRead, RowsRead, ColumnRead, ShaftsRead}
 use Rattle.fields.specs.Cursors.{left, FieldIs}
 use Rattle.fields.proofs.Cursors.{stop, unless-one}
-use Rattle.reading.proofs.States.{reads-none, reads-then, reads-field, reads-kept, reads-fault}
+use Rattle.columns.proofs.States.{reads-none, reads-then, reads-field, reads-kept, reads-fault}
 
 -- a cassette that is refused is not marked
 not-marked : (before words words′ : List ℕ) (v : ℕ) (t : Taken) → (takenNumber t ≡ 0 → ⊥) → MarksAfter before words words′ v t → Marked words before → Marked words′ before

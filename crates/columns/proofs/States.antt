@@ -7,7 +7,7 @@ use Rattle.marks.specs.Marking.{Marked}
 use Rattle.store.specs.declared.Store.{Store}
 use Rattle.image.specs.Reading.{Rest, Part, refused, unless, next}
 use Rattle.fields.specs.declared.Cursor.{Cursor}
-use Rattle.reading.specs.Promises.{Work, Reads}
+use Rattle.columns.specs.Columns.{Work, Reads}
 use Rattle.fields.specs.Cursors.{left, FieldIs}
 use Rattle.fields.proofs.Cursors.{unless-one, both-refused}
 

@@ -3,10 +3,10 @@ use mathlib.Core.Path.{_≡_, subst}
 use Prim.Native.Nat.{ℕ, _-_, _≤_}
 use native.Mathlib.Omega.{arith}
 use Rattle.image.specs.Image.{cassetteWidth}
-use Rattle.reading.specs.Promises.{RowsRead}
-use Rattle.reading.proofs.Parts.{no-rows, row-more}
-use Rattle.reading.proofs.read_rows.Statement.{statement}
-use Rattle.reading.proofs.read_rows.Tie as tie
+use Rattle.columns.specs.Columns.{RowsRead}
+use Rattle.columns.proofs.Parts.{no-rows, row-more}
+use Rattle.columns.proofs.read_rows.Statement.{statement}
+use Rattle.columns.proofs.read_rows.Tie as tie
 
 abbrev Inv-loop : tie.InvT-loop
 Inv-loop image slots₀ marks₀ x rows c₀ k₀ slots marks c k = (k ≤ rows) × RowsRead image cassetteWidth x k slots₀ marks₀ c₀ slots marks c

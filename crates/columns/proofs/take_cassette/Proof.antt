@@ -3,10 +3,10 @@ use mathlib.Core.Path.{subst}
 use native.Mathlib.Omega.{arith}
 use Rattle.marks.specs.declared.Taken.{Taken}
 use Rattle.marks.specs.Taking.{TakenIs}
-use Rattle.reading.proofs.Parts.{cassette-kept, cassette-stops, cassette-goes}
+use Rattle.columns.proofs.Parts.{cassette-kept, cassette-stops, cassette-goes}
 use borrow.Author.Needs.{needs}
-use Rattle.reading.proofs.take_cassette.Statement.{statement}
-use Rattle.reading.proofs.take_cassette.Tie as tie
+use Rattle.columns.proofs.take_cassette.Statement.{statement}
+use Rattle.columns.proofs.take_cassette.Tie as tie
 
 returns : tie.Need-returns
 returns c = let a = c .before .before .args in cassette-kept (a .x) (a .k) (a .slots .now) (a .marks .now) (a .c) (c .if1 .taken)

@@ -1,9 +1,9 @@
 -- `read_column` meets its contract: a fault is kept; else 3, or the height set and then the rows.
 use native.Mathlib.Omega.{arith}
-use Rattle.reading.proofs.Parts.{column-kept, column-high, column-goes}
+use Rattle.columns.proofs.Parts.{column-kept, column-high, column-goes}
 use borrow.Author.Needs.{needs}
-use Rattle.reading.proofs.read_column.Statement.{statement}
-use Rattle.reading.proofs.read_column.Tie as tie
+use Rattle.columns.proofs.read_column.Statement.{statement}
+use Rattle.columns.proofs.read_column.Tie as tie
 
 returns : tie.Need-returns
 returns c =

@@ -2,10 +2,10 @@
 use mathlib.Core.Path.{_≡_, refl, subst}
 use Prim.Native.Nat.{ℕ, _-_, _≤_}
 use native.Mathlib.Omega.{arith}
-use Rattle.reading.specs.Promises.{ShaftsRead}
-use Rattle.reading.proofs.Parts.{no-shafts, shaft-more}
-use Rattle.reading.proofs.read_shafts.Statement.{statement}
-use Rattle.reading.proofs.read_shafts.Tie as tie
+use Rattle.columns.specs.Columns.{ShaftsRead}
+use Rattle.columns.proofs.Parts.{no-shafts, shaft-more}
+use Rattle.columns.proofs.read_shafts.Statement.{statement}
+use Rattle.columns.proofs.read_shafts.Tie as tie
 
 abbrev Inv-loop : tie.InvT-loop
 Inv-loop image m h heights₀ slots₀ marks₀ shafts c₀ x₀ heights slots marks c x = (shafts ≡ m) × (x ≤ shafts) × ShaftsRead image m h x heights₀ slots₀ marks₀ c₀ heights slots marks c
