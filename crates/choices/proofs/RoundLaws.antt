@@ -9,8 +9,9 @@ use Rattle.stacks.proofs.Deciding.{decides-as}
 use Rattle.rooms.specs.declared.Frame.{Frame}
 use Rattle.lifts.specs.Lifting.{heightIn}
 use Rattle.choices.specs.declared.Round.{Round}
-use Rattle.finding.specs.declared.find.Found.{Found}
-use Rattle.finding.specs.Finding.{wantedIn, Stands, FoundIs}
+use Rattle.finding.specs.declared.Found.{Found}
+use Rattle.agreeing.specs.Agreeing.{wantedIn}
+use Rattle.finding.specs.Finding.{Stands, FoundIs}
 use Rattle.choices.specs.Choices.{RoundFor, SomeRound}
 use Rattle.finding.proofs.FindLaws.{none-found}
 

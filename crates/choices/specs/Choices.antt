@@ -5,7 +5,8 @@ use Rattle.stacks.specs.Run.{Usable}
 use Rattle.rooms.specs.declared.Frame.{Frame}
 use Rattle.lifts.specs.Lifting.{heightIn}
 use Rattle.choices.specs.declared.Round.{Round}
-use Rattle.finding.specs.Finding.{Finished, wantedIn, Stands, Somewhere}
+use Rattle.agreeing.specs.Agreeing.{Finished, wantedIn}
+use Rattle.finding.specs.Finding.{Stands, Somewhere}
 
 -- shaft `to` of the goal is not passed, and the cassette of its next row stands at `from`
 pub record RoundFor (f : Frame) (goal-heights goal-slots done heights slots : List ℕ) (r : Round) : Type 0 where

@@ -1,10 +1,10 @@
 // The choice of a round: which shaft gets its next row, and where its cassette is taken from. `propose` is free to say anything: what it says is tested, and
 // `first_round` is what is proved to be there.
-use finding::agree::next;
-use finding::find::Found;
-use finding::find::find;
-use finding::find::spot_at;
-use finding::find::stands;
+use agreeing::next;
+use finding::Found;
+use finding::find;
+use finding::spot_at;
+use finding::stands;
 use lifts::Heights;
 use lifts::Shaft;
 use lifts::Slots;
@@ -17,7 +17,7 @@ ghost use Rattle.stacks.specs.Run.{Usable};
 ghost use Rattle.stacks.specs.Deciding.{Decides};
 ghost use Rattle.lifts.specs.Lifting.{heightIn};
 ghost use Rattle.rooms.specs.Frames.{Fits};
-ghost use Rattle.finding.specs.Finding.{Finished};
+ghost use Rattle.agreeing.specs.Agreeing.{Finished};
 ghost use Rattle.choices.specs.Choices.{RoundFor, SomeRound};
 
 // A round: the shaft that gets its next row, and where the cassette for it stands.

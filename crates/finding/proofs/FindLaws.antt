@@ -15,7 +15,7 @@ use Rattle.rooms.specs.declared.Frame.{Frame}
 use Rattle.rooms.specs.declared.Spot.{Spot}
 use Rattle.lifts.specs.Lifting.{heightIn, shown}
 use Rattle.rooms.specs.Frames.{Fits}
-use Rattle.finding.specs.declared.find.Found.{Found}
+use Rattle.finding.specs.declared.Found.{Found}
 use Rattle.finding.specs.Finding.{Stands, FoundIs}
 
 module _ (f : Frame) (heights slots done : List ℕ) (v : ℕ) where

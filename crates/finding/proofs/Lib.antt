@@ -1,2 +1,1 @@
-pub mod AgreeLaws
 pub mod FindLaws

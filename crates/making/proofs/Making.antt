@@ -29,7 +29,7 @@ use Rattle.rooms.specs.declared.Frame.{Frame}
 use Rattle.lifts.specs.Lifting.{mostShafts, heightIn}
 use Rattle.rooms.specs.Frames.{storeOf, Fits}
 use Rattle.rooms.proofs.Bottoms.{shaped-fits, stack-onto}
-use Rattle.finding.specs.Finding.{AgreeingIs}
+use Rattle.agreeing.specs.Agreeing.{AgreeingIs}
 use Rattle.turns.specs.Turning.{passedRows, OnTheWay}
 use Rattle.rounds.specs.Rounds.{rowsLeft, ArrivedIs}
 use Rattle.turns.proofs.Way.{passed-length}

@@ -1,5 +1,5 @@
 // The list made, for two stores that can be compared and a goal that can be reached.
-use finding::agree::agreeing;
+use agreeing::agreeing;
 use lifts::Shaft;
 use lifts::Slots;
 use lifts::slot_at;

@@ -28,11 +28,11 @@ use Rattle.moves.proofs.Carrying.{CarriedOn, carried-on}
 use Rattle.rooms.specs.declared.Frame.{Frame}
 use Rattle.rooms.specs.declared.Lift.{Lift}
 use Rattle.rooms.specs.declared.Spot.{Spot}
-use Rattle.rooms.specs.declared.ahead.Ahead.{Ahead}
+use Rattle.ahead.specs.declared.Ahead.{Ahead}
 use Rattle.lifts.specs.Lifting.{heightIn}
 use Rattle.rooms.specs.Frames.{storeOf, depthIn, Fits, Held}
 use Rattle.rooms.specs.Rooms.{SomeOutside}
-use Rattle.rooms.specs.Ahead.{CanSee, AheadIs, FollowIs}
+use Rattle.ahead.specs.Ahead.{CanSee, AheadIs, FollowIs}
 use Rattle.placing.specs.Placed.{liftsAhead, CanPlace, PlacedIs}
 use Rattle.rooms.proofs.Bottoms.{rows-length, stack-onto, row-onto, legal-allowed, shaped-fits, heights-are, one-room}
 

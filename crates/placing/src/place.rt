@@ -1,4 +1,7 @@
 // A cassette brought to a row of another shaft.
+use ahead::follow;
+use ahead::look_ahead;
+use ahead::next_lift;
 use lifts::Heights;
 use lifts::Shaft;
 use lifts::Slots;
@@ -6,9 +9,6 @@ use moves::Hints;
 use moves::put_lift;
 use rooms::Frame;
 use rooms::Spot;
-use rooms::ahead::follow;
-use rooms::ahead::look_ahead;
-use rooms::ahead::next_lift;
 ghost use Prim.Native.Nat.{_+_, _≤_};
 ghost use lib.ListN.{length};
 ghost use Rattle.rooms.specs.Frames.{Held};

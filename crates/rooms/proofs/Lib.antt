@@ -1,3 +1,2 @@
-pub mod AheadLaws
 pub mod Bottoms
 pub mod RoomLaws

@@ -1,6 +1,4 @@
 // A store that is lent as its arrays with its frame apart: the shafts that lifts may use, and where there is room.
-pub mod ahead;
-
 use lifts::Heights;
 use lifts::Row;
 use lifts::Shaft;

@@ -19,7 +19,7 @@ use Rattle.lifts.specs.Lifting.{heightIn}
 use Rattle.rooms.specs.Frames.{storeOf, Fits}
 use Rattle.rooms.proofs.Bottoms.{shaped-fits}
 use Rattle.choices.specs.declared.Round.{Round}
-use Rattle.finding.specs.Finding.{Finished}
+use Rattle.agreeing.specs.Agreeing.{Finished}
 use Rattle.choices.specs.Choices.{RoundFor, SomeRound}
 use Rattle.turns.specs.Turning.{OnTheWay}
 use Rattle.serving.specs.Serving.{deepest, OneMore}

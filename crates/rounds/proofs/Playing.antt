@@ -16,7 +16,8 @@ use Rattle.placing.specs.Placed.{liftsAhead, CanPlace, PlacedIs}
 use Rattle.rooms.proofs.Bottoms.{rows-length, shaped-fits}
 use Rattle.store.proofs.Rows.{stack-length}
 use Rattle.lifts.specs.declared.Shaft.{Shaft}
-use Rattle.finding.specs.Finding.{wantedIn, Stands, Somewhere}
+use Rattle.agreeing.specs.Agreeing.{wantedIn}
+use Rattle.finding.specs.Finding.{Stands, Somewhere}
 use Rattle.choices.specs.Choices.{RoundFor}
 use Rattle.turns.specs.declared.Owed.{Owed}
 use Rattle.turns.specs.declared.Turned.{Turned}

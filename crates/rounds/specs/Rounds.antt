@@ -9,7 +9,7 @@ use Rattle.moves.specs.Written.{Steps}
 use Rattle.rooms.specs.declared.Frame.{Frame}
 use Rattle.lifts.specs.Lifting.{heightIn}
 use Rattle.rooms.specs.Frames.{storeOf, depthIn}
-use Rattle.finding.specs.Finding.{Finished}
+use Rattle.agreeing.specs.Agreeing.{Finished}
 use Rattle.turns.specs.Turning.{OnTheWay}
 use Rattle.serving.specs.Serving.{deepest, OneMore}
 

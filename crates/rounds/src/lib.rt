@@ -1,10 +1,10 @@
 // Rounds of direct placement: each brings the next row of one shaft of the goal into place, fills the row that was lent for it again, and keeps every row that
 // is in place already; round after round, until the store is the goal.
+use agreeing::finished;
+use agreeing::next;
 use choices::Round;
 use choices::choose;
-use finding::agree::finished;
-use finding::agree::next;
-use finding::find::seek;
+use finding::seek;
 use lifts::Heights;
 use lifts::Row;
 use lifts::Shaft;

@@ -20,7 +20,7 @@ use Rattle.lifts.specs.Lifting.{heightIn}
 use Rattle.rooms.specs.Frames.{storeOf, depthIn, Held}
 use Rattle.placing.specs.Placed.{liftsAhead, CanPlace, PlacedIs}
 use Rattle.rooms.proofs.Bottoms.{rows-length, stack-onto}
-use Rattle.finding.specs.Finding.{wantedIn}
+use Rattle.agreeing.specs.Agreeing.{wantedIn}
 use Rattle.turns.specs.declared.Owed.{Owed}
 use Rattle.turns.specs.declared.Turned.{Turned}
 use Rattle.turns.specs.Turning.{passedRows, OnTheWay, Ready, OwedIs, TurnedIs}

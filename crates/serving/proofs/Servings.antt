@@ -22,7 +22,7 @@ use Rattle.rooms.specs.Frames.{storeOf, depthIn, Held}
 use Rattle.placing.specs.Left.{CanLeave, LeftIs}
 use Rattle.rooms.proofs.Bottoms.{rows-length}
 use Rattle.choices.specs.declared.Round.{Round}
-use Rattle.finding.specs.Finding.{wantedIn}
+use Rattle.agreeing.specs.Agreeing.{wantedIn}
 use Rattle.choices.specs.Choices.{RoundFor}
 use Rattle.turns.specs.declared.Owed.{Owed}
 use Rattle.turns.specs.declared.Turned.{Turned}

@@ -20,12 +20,13 @@ use Rattle.store.proofs.Lifting.{can-carry}
 use Rattle.moves.proofs.Carrying.{CarriedOn, carried-on, went-none, went-within}
 use Rattle.rooms.specs.declared.Frame.{Frame}
 use Rattle.rooms.specs.declared.Spot.{Spot}
-use Rattle.rooms.specs.declared.ahead.Ahead.{Ahead}
+use Rattle.ahead.specs.declared.Ahead.{Ahead}
 use Rattle.lifts.specs.Lifting.{heightIn}
 use Rattle.rooms.specs.Frames.{storeOf, depthIn, Fits}
-use Rattle.rooms.specs.Ahead.{CanSee, AheadIs}
+use Rattle.ahead.specs.Ahead.{CanSee, AheadIs}
 use Rattle.rooms.proofs.Bottoms.{rows-length, legal-allowed, shaped-fits}
-use Rattle.finding.specs.Finding.{wantedIn, Stands}
+use Rattle.agreeing.specs.Agreeing.{wantedIn}
+use Rattle.finding.specs.Finding.{Stands}
 use Rattle.turns.specs.declared.Owed.{Owed}
 use Rattle.turns.specs.Turning.{passedRows, OnTheWay, Ready, ThirdIs, LentIs, OwedIs, TurnedIs}
 use Rattle.turns.proofs.OneLift.{run-one}

@@ -19,7 +19,8 @@ use Rattle.rooms.specs.declared.Frame.{Frame}
 use Rattle.lifts.specs.Lifting.{heightIn}
 use Rattle.rooms.specs.Frames.{storeOf, depthIn, Held}
 use Rattle.rooms.proofs.Bottoms.{rows-length, rows-onto, stack-onto, row-onto}
-use Rattle.finding.specs.Finding.{wantedIn, Stands}
+use Rattle.agreeing.specs.Agreeing.{wantedIn}
+use Rattle.finding.specs.Finding.{Stands}
 use Rattle.turns.specs.Turning.{passedRows, OnTheWay}
 
 pub passed-length : (goal done : List ℕ) (x : ℕ) → length (passedRows goal done x) ≡ heightIn done x

@@ -13,7 +13,8 @@ use Rattle.rooms.specs.declared.Frame.{Frame}
 use Rattle.rooms.specs.declared.Spot.{Spot}
 use Rattle.lifts.specs.Lifting.{heightIn}
 use Rattle.rooms.specs.Frames.{storeOf, depthIn, Held}
-use Rattle.finding.specs.Finding.{wantedIn, Stands}
+use Rattle.agreeing.specs.Agreeing.{wantedIn}
+use Rattle.finding.specs.Finding.{Stands}
 use Rattle.turns.specs.declared.Owed.{Owed}
 use Rattle.turns.specs.declared.Turned.{Turned}
 

@@ -1,4 +1,5 @@
 // A slot made outside two shafts, where none is left: the top of a third shaft goes to the second of them.
+use ahead::look_ahead;
 use lifts::Heights;
 use lifts::Shaft;
 use lifts::Slots;
@@ -6,7 +7,6 @@ use moves::Hints;
 use moves::put_lift;
 use rooms::Frame;
 use rooms::Spot;
-use rooms::ahead::look_ahead;
 ghost use Prim.Native.Nat.{_+_, _≤_, _<_};
 ghost use lib.ListN.{length};
 ghost use Rattle.lifts.specs.Lifting.{heightIn};

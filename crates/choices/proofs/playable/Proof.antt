@@ -10,8 +10,8 @@ use Rattle.choices.proofs.playable.Statement.{statement}
 use Rattle.choices.proofs.playable.Tie as tie
 use Rattle.choices.proofs.playable.Reads as reads
 use Rattle.choices.proofs.playable.Lts as lts
-use Rattle.finding.proofs.agree.next.Reads as next-reads
-use Rattle.finding.proofs.find.stands.Reads as stands-reads
+use Rattle.agreeing.proofs.next.Reads as next-reads
+use Rattle.finding.proofs.stands.Reads as stands-reads
 use Rattle.rooms.proofs.usable.Reads as usable-reads
 
 -- the shaft may be used
