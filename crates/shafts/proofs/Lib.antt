@@ -1,4 +1,5 @@
 pub mod AllBelow
 pub mod InPlace
+pub mod SlotThere
 pub mod Walk
 pub mod Walked

@@ -1,11 +1,12 @@
 -- When number 12 applies to the arrays of a store (document 01, "Refused because of the input"): "m or h outside 1 to 16, or something recorded above a shaft's
--- height or for a shaft not below m".
+-- height or for a shaft not below m". And which slots there are.
 use mathlib.Core.Bool.{Bool, true, _&&_, _||_}
 use mathlib.Core.List.{List}
 use Prim.Native.Nat.{ℕ, zero, suc}
 use lib.Dec.{leb, ltb, eqb}
 use Rattle.marks.specs.Cassettes.{given}
-use Rattle.lifts.specs.Lifting.{mostRows, heightIn, shown}
+use Rattle.lifts.specs.Lifting.{mostShafts, mostRows, heightIn, shown}
+use Rattle.shafts.specs.Depths.{depthBy}
 
 -- a test of every number below n
 unfoldable pub allBelow : ℕ → (ℕ → Bool) → Bool
@@ -31,3 +32,7 @@ inRange k = ltb 0 k && leb k 16
 
 abbrev pub frameInRange : ℕ → ℕ → Bool
 frameInRange m h = inRange m && inRange h
+
+-- there is a row y of shaft x: by m and the shaft's depth, and within the 16 by 16 slots that any value records
+abbrev pub slotThere : ℕ → ℕ → ℕ → ℕ → Bool
+slotThere m h x y = ((ltb x m && ltb x mostShafts) && ltb 0 y) && (leb y (depthBy h x) && leb y mostRows)

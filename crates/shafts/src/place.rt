@@ -1,12 +1,15 @@
-// Whether number 12 applies (document 01): m and h in range, and nothing recorded where no cassette may stand.
+// Whether number 12 applies (document 01): m and h in range, and nothing recorded where no cassette may stand. And which slots there are.
+use crate::depth_of;
 use lifts::Heights;
+use lifts::Row;
+use lifts::Shaft;
 use lifts::Slots;
 use lifts::height_at;
 use lifts::slot_at;
 ghost use mathlib.Core.Path.{_≡_};
 ghost use Prim.Native.Nat.{_<_};
 ghost use Rattle.lifts.specs.Lifting.{mostShafts};
-ghost use Rattle.shafts.specs.InPlace.{allBelow, fillable, shaftInPlace, frameInRange};
+ghost use Rattle.shafts.specs.InPlace.{allBelow, fillable, shaftInPlace, frameInRange, slotThere};
 
 // How many slots of a shaft may hold something.
 fn fillable_rows(m: u8, heights: &Heights, x: usize) -> usize
@@ -66,4 +69,23 @@ pub fn frame_in_range(m: u8, h: u8) -> bool
         return false;
     }
     h <= 16
+}
+
+// Whether there is a row of a shaft.
+pub fn slot_there(m: u8, h: u8, x: Shaft, y: Row) -> bool
+    ensures { λ r. ⌜ r ≡ slotThere m h (x .0) (y .0) ⌝ }
+{
+    if m <= x.0 {
+        return false;
+    }
+    if 16 <= x.0 {
+        return false;
+    }
+    if y.0 == 0 {
+        return false;
+    }
+    if depth_of(h, x.0 as usize) < y.0 {
+        return false;
+    }
+    y.0 <= 16
 }

@@ -1,20 +1,19 @@
 -- How the functions that lift answer: the store they build is the definition's, and each answer has its number.
-use borrow.Author.Tests.{ltb-true, leb-true, lt-ltb, le-ltb, le-leb, lt-leb}
-use mathlib.Core.Bool.{true, false, _&&_}
+use mathlib.Core.Bool.{true, false}
 use mathlib.Core.List.{List}
 use mathlib.Core.Path.{_≡_, refl, sym, _∙_}
-use Prim.Native.Nat.{ℕ, zero, suc, _+_, _-_, _*_, _≤_, _<_}
+use Prim.Native.Nat.{ℕ, zero, suc, _+_, _-_, _*_}
 use native.Mathlib.Omega.{arith}
-use lib.Dec.{leb, ltb}
 use lib.ListN.{getD}
 use Rattle.marks.specs.Cassettes.{first}
-use Rattle.marks.proofs.Faulted.{first-skips, first-stays, both-true}
+use Rattle.marks.proofs.Faulted.{first-skips, first-stays}
 use Rattle.lifts.specs.declared.Refusal.{Refusal}
-use Rattle.lifts.specs.Lifting.{mostShafts, mostRows, refusalBy, heightsAfter, slotsAfter}
+use Rattle.lifts.specs.Lifting.{refusalBy, heightsAfter, slotsAfter}
 use Rattle.lifts.specs.Numbers.{refusalNumber}
 use Rattle.lifts.specs.Carried.{CanCarry}
 use Rattle.lifts.proofs.Moving.{shown-place}
 use Rattle.lifts.proofs.Numbered.{refusal-one}
+use Rattle.shafts.proofs.SlotThere.{slot-range}
 use Rattle.store.specs.declared.Store.{Store}
 use Rattle.store.specs.declared.Fault.{Fault}
 use Rattle.store.specs.declared.Answer.{Answer}
@@ -28,39 +27,15 @@ use Rattle.store.proofs.Checks.{fault-one}
 use Rattle.store.proofs.Numbered.{only-answer}
 
 module _ (s : Store) (x y : ℕ) where
-  -- the tests of `hasSlot`, in the code's order
-  pub slot-past : s .m ≤ x → hasSlot s x y ≡ false
-  slot-past h = simp (le-ltb x (s .m) h)
-
-  module _ (m : x < s .m) where
-    pub slot-beyond : mostShafts ≤ x → hasSlot s x y ≡ false
-    slot-beyond h = simp (lt-ltb x (s .m) m, le-ltb x mostShafts h)
-
-    module _ (h : x < mostShafts) where
-      pub slot-none : y ≡ 0 → hasSlot s x y ≡ false
-      slot-none e = simp (lt-ltb x (s .m) m, lt-ltb x mostShafts h, le-ltb 0 y (omega arith))
-
-      pub slot-above : 0 < y → depth s x < y → hasSlot s x y ≡ false
-      slot-above i j = simp (lt-ltb x (s .m) m, lt-ltb x mostShafts h, lt-ltb 0 y i, lt-leb y (depth s x) j)
-
-      pub slot-there : 0 < y → y ≤ depth s x → hasSlot s x y ≡ leb y mostRows
-      slot-there i j = simp (lt-ltb x (s .m) m, lt-ltb x mostShafts h, lt-ltb 0 y i, le-leb y (depth s x) j)
-
   -- no such slot
   pub content-none : hasSlot s x y ≡ false → 0 ≡ contentOf s x y
   unfolding contentOf
   content-none e = rw e
 
   module _ (e : hasSlot s x y ≡ true) where
-    pub slot-range : (x < mostShafts) × ((0 < y) × (y ≤ mostRows))
-    slot-range =
-        let p = both-true ((ltb x (s .m) && ltb x mostShafts) && ltb 0 y) _ e in
-        let q = both-true (ltb x (s .m) && ltb x mostShafts) _ (p .0) in
-        (ltb-true x mostShafts (both-true (ltb x (s .m)) _ (q .0) .1), (ltb-true 0 y (q .1), leb-true y mostRows (both-true (leb y (depth s x)) _ (p .1) .1)))
-
     pub content-at : getD (s .slots) (16 * x + (y - 1)) 0 ≡ contentOf s x y
     unfolding contentOf
-    content-at = rw e (sym (shown-place (s .slots) x y (slot-range .1 .0)))
+    content-at = rw e (sym (shown-place (s .slots) x y (slot-range (s .m) (s .h) x y e .1 .0)))
 
 -- a lift judged by the depth and the heights of a store
 pub judged-in : (s : Store) (a b : ℕ) {d left entered : ℕ} → d ≡ depth s b → left ≡ height s a → entered ≡ height s b → refusalBy (s .m) d a b left entered ≡ liftRefusal s a b

@@ -1,14 +1,14 @@
 -- The store, slot by slot (document 000, Definition 3.1; document 01, "The store"). A store value has m shafts of depth h, counted from 0; a height
 -- for each shaft; and a number for each slot, 16 slots for a shaft, from row 1 at the bottom.
-use mathlib.Core.Bool.{Bool, cond, _&&_}
+use mathlib.Core.Bool.{Bool, cond}
 use mathlib.Core.List.{List, [], _++_}
 use mathlib.Core.Path.{_≡_}
 use Prim.Native.Nat.{ℕ, zero, suc, _+_, _-_}
-use lib.Dec.{leb, ltb}
 use lib.ListN.{length}
 use Rattle.stacks.specs.Count.{sum, greatest}
-use Rattle.lifts.specs.Lifting.{mostShafts, mostRows, heightIn, shown}
+use Rattle.lifts.specs.Lifting.{heightIn, shown}
 use Rattle.shafts.specs.Depths.{depthBy, spaceFor}
+use Rattle.shafts.specs.InPlace.{slotThere}
 use Rattle.shafts.specs.Rows.{rowsUp, rowsDown}
 use Rattle.store.specs.declared.Store.{Store}
 
@@ -36,9 +36,9 @@ height s x = heightIn (s .heights) x
 abbrev pub slot : Store → ℕ → ℕ → ℕ
 slot s x y = shown (s .slots) x y
 
--- the store has row y of shaft x: by its m and the shaft's depth, and within the 16 by 16 slots that any value records
+-- the store has row y of shaft x
 abbrev pub hasSlot : Store → ℕ → ℕ → Bool
-hasSlot s x y = ((ltb x (s .m) && ltb x mostShafts) && ltb 0 y) && (leb y (depth s x) && leb y mostRows)
+hasSlot s = slotThere (s .m) (s .h)
 
 -- what a caller who names a shaft and a row is told: 0 where the store has no such slot
 unfoldable pub contentOf : Store → ℕ → ℕ → ℕ

@@ -11,6 +11,7 @@ use lifts::carry;
 use lifts::judge;
 use marks::Cassette;
 use shafts::depth_of;
+use shafts::place::slot_there;
 ghost use mathlib.Core.Path.{_≡_};
 ghost use Rattle.lifts.specs.Numbers.{Only, judgedNumber};
 ghost use Rattle.store.specs.Slots.{height, hasSlot, contentOf};
@@ -62,19 +63,7 @@ impl Store {
     pub fn has_slot(self, x: Shaft, y: Row) -> bool
         ensures { λ r. ⌜ r ≡ hasSlot self (x .0) (y .0) ⌝ }
     {
-        if self.m <= x.0 {
-            return false;
-        }
-        if 16 <= x.0 {
-            return false;
-        }
-        if y.0 == 0 {
-            return false;
-        }
-        if depth_of(self.h, x.0 as usize) < y.0 {
-            return false;
-        }
-        y.0 <= 16
+        slot_there(self.m, self.h, x, y)
     }
 
     // The content of a slot, 0 for an empty one and where the store has no such slot.

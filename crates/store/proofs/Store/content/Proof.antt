@@ -6,7 +6,8 @@ use Prim.Native.Nat.{_≤_, _<_}
 use native.Mathlib.Omega.{arith}
 use Rattle.lifts.specs.Lifting.{mostShafts, mostRows}
 use Rattle.store.specs.Slots.{hasSlot}
-use Rattle.store.proofs.Lifting.{content-none, slot-range, content-at}
+use Rattle.shafts.proofs.SlotThere.{slot-range}
+use Rattle.store.proofs.Lifting.{content-none, content-at}
 use borrow.Author.Needs.{needs}
 use Rattle.store.proofs.Store.content.Statement.{statement}
 use Rattle.store.proofs.Store.content.Tie as tie
@@ -16,7 +17,7 @@ there : (c : tie.Else1) → hasSlot (c .before .before .args .t1) (c .before .be
 there c = sym (c .before .has-slot .ensures) ∙ not-false _ (c .if1 .left)
 
 range : (c : tie.Else1) → (c .before .before .args .x .0 < mostShafts) × ((0 < c .before .before .args .y .0) × (c .before .before .args .y .0 ≤ mostRows))
-range c = slot-range (c .before .before .args .t1) (c .before .before .args .x .0) (c .before .before .args .y .0) (there c)
+range c = slot-range (c .before .before .args .t1 .m) (c .before .before .args .t1 .h) (c .before .before .args .x .0) (c .before .before .args .y .0) (there c)
 
 returns : tie.Need-returns
 returns c =
