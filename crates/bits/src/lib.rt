@@ -1,5 +1,5 @@
 // Packed fields of bits (document 01, "The image": "Fields are packed most significant bit first, with no gaps"): the reader of the
-// caller's bytes, and the pen that writes them.
+// caller's bytes.
 
 ghost use mathlib.Core.Path.{_≡_};
 ghost use Prim.Native.Nat.{_+_, _-_, _*_, _/_, _%_, _^_, _≤_, _<_};

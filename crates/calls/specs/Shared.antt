@@ -2,7 +2,7 @@
 -- images, read start first, and give faults of reading before any other").
 use mathlib.Core.List.{List}
 use mathlib.Core.Path.{_≡_}
-use Prim.Native.Nat.{ℕ, _+_, _*_, _%_, _^_}
+use Prim.Native.Nat.{ℕ, zero, suc, _+_, _*_, _%_, _^_}
 use Rattle.store.specs.declared.Store.{Store}
 use Rattle.marks.specs.Cassettes.{first}
 use Rattle.image.specs.Reading.{readImage}
@@ -28,8 +28,13 @@ readFault bytes = readImage bytes .number
 abbrev pub readFaults : List ℕ → List ℕ → ℕ
 readFaults a b = first (readFault a) (readFault b)
 
--- Two images were read: the number that refuses them, and their stores where none does.
+-- the goal's store, and that of a refused reading where the start is refused, since the goal is not read then
+abbrev pub goalAfter : ℕ → Store → Store → Store
+goalAfter zero start goal = goal
+goalAfter (suc k) start goal = start
+
+-- Two images were read: the number that refuses them, and their stores.
 pub record BothAre (a b : List ℕ) (r : Both) : Type 0 where
   pub number : r .number ≡ readFaults a b
-  pub start : r .number ≡ 0 → r .start ≡ storeIn a
-  pub goal : r .number ≡ 0 → r .goal ≡ storeIn b
+  pub start : r .start ≡ storeIn a
+  pub goal : r .goal ≡ goalAfter (readFault a) (storeIn a) (storeIn b)

@@ -11,6 +11,7 @@ use Rattle.planner.specs.Numbers.{planNumber}
 use Rattle.planner.specs.Promises.{PlanIs}
 use Rattle.calls.specs.declared.Both.{Both}
 use Rattle.calls.specs.Shared.{answerOf, RefusedCall, storeIn, BothAre}
+use Rattle.calls.proofs.Readings.{both-read}
 use Rattle.halyardgage.specs.Calls.{ReachGives, ReachCallIs, PlanGives, PlanCallIs}
 
 module _ {a b : List ℕ} {o : Both} (p : BothAre a b o) where
@@ -24,7 +25,7 @@ module _ {a b : List ℕ} {o : Both} (p : BothAre a b o) where
   -- both images are read: what holds of the two stores holds of those that the images stand for
   module _ (e : o .number ≡ 0) where
     carried : (P : Store → Store → Type 0) → P (o .start) (o .goal) → P (storeIn a) (storeIn b)
-    carried P = subst₂ P (p .start e) (p .goal e)
+    carried P = let q = both-read p e in subst₂ P (q .0) (q .1)
 
     pub reach-answered : (v : Reach) {r : ℕ} → ReachSays (o .start) (o .goal) v → r ≡ reachNumber v → ReachCallIs a b r
     reach-answered v {r} q g = record {

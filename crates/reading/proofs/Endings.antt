@@ -1,4 +1,4 @@
--- The end of a reading, as the code does it: the padding, 6 and 7, and the answer.
+-- The shafts and the end of a reading put together, and its answer.
 use mathlib.Core.List.{List, []}
 use mathlib.Core.Path.{_≡_, refl, sym, ap, _∙_, subst}
 use Prim.Native.Nat.{ℕ, zero, suc, _≤_}

@@ -24,6 +24,11 @@ taken-one Taken.Added n e = n refl
 taken-one Taken.NumberZero n e = omega arith
 taken-one Taken.Twice n e = omega arith
 
+refused-words : (r : Taken) → (r ≡ Taken.Added → ⊥) → {words words′ : List ℕ} {c : ℕ} → TakenIs words c words′ r → words′ ≡ words
+refused-words Taken.Added n t = absurd (n refl)
+refused-words Taken.NumberZero n t = t .words-are
+refused-words Taken.Twice n t = t .words-are
+
 module _ {words slots : List ℕ} {x k : ℕ} {words′ words″ : List ℕ} (p : RowsSoFar words slots x k words′) where
   pub row-taken : TakenIs words′ (shown slots x (suc k)) words″ Taken.Added → RowsSoFar words slots x (suc k) words″
   row-taken t = record {
@@ -35,7 +40,13 @@ module _ {words slots : List ℕ} {x k : ℕ} {words′ words″ : List ℕ} (p 
   row-refused r rows t n h = record {
     fault = λ before m. sym (row-met before slots x k rows (takenNumber r) (p .none before m) (sym (t .fault _ (p .marks before m))) (taken-one r n) h);
     marks = λ before m z. absurd (n z);
+    refused = λ _. record {
+      below = k;
+      few = h;
+      none = p .none;
+      marks = λ before m. rw (refused-words r n t) (p .marks before m);
+    };
   }
 
 pub rows-taken : {words slots : List ℕ} {x rows : ℕ} {words′ : List ℕ} → RowsSoFar words slots x rows words′ → RowsAre words slots x rows words′ Taken.Added
-rows-taken p = record { fault = λ before m. sym (p .none before m); marks = λ before m e. p .marks before m }
+rows-taken p = record { fault = λ before m. sym (p .none before m); marks = λ before m e. p .marks before m; refused = λ n. absurd (n refl) }

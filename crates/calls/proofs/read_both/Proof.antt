@@ -5,12 +5,12 @@ use Rattle.calls.proofs.read_both.Statement.{statement}
 use Rattle.calls.proofs.read_both.Tie as tie
 
 returns : tie.Need-returns
-returns c = start-refused (number-read _ (c .before .before .before .read .ensures) (c .before .before .read-number .ensures)) (c .if1 .taken)
+returns c = start-refused (c .before .before .before .read .ensures) (number-read _ (c .before .before .before .read .ensures) (c .before .before .read-number .ensures)) (c .if1 .taken)
 
 returns-2 : tie.Need-returns-2
 returns-2 c =
     goal-told (stands _ (c .before .before .before .before .before .before .read .ensures) (c .before .before .before .before .before .read-number .ensures) (c .before .before .before .if1 .left))
-    (number-read _ (c .before .before .read2 .ensures) (c .read-number2 .ensures)) (stands _ (c .before .before .read2 .ensures) (c .read-number2 .ensures))
+    (c .before .before .read2 .ensures) (number-read _ (c .before .before .read2 .ensures) (c .read-number2 .ensures))
 
 pub read-both-spec : {M : Type 1} → statement M
 read-both-spec =
