@@ -47,10 +47,10 @@ module _ (a : tie.After-take-rows Inv-loop μ-loop) where
   refused f e = shaft-refused (a .before .before .before .before .before .before .loop .inv .2) f (a .before .before .before .before .before .loop-test .taken) fits rows-are e
 
 returns-2 : tie.Need-returns-2 Inv-loop μ-loop
-returns-2 c = refused (c .before .before) Fault.NumberZero (ap takenNumber (c .enum-told2 .given .1))
+returns-2 c = refused (c .before .before) _ (ap takenNumber (c .enum-told2 .given .1))
 
 returns-3 : tie.Need-returns-3 Inv-loop μ-loop
-returns-3 c = refused (c .before .before) Fault.Twice (ap takenNumber (c .enum-told3 .given .1))
+returns-3 c = refused (c .before .before) _ (ap takenNumber (c .enum-told3 .given .1))
 
 loop-again : tie.Need-loop-again Inv-loop μ-loop
 loop-again c =
