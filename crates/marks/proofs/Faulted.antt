@@ -1,8 +1,9 @@
 -- Laws of the first of two faults, and of a number under a test.
 use mathlib.Core.Bool.{Bool, true, false, not, _&&_}
-use mathlib.Core.Path.{_≡_, refl}
+use mathlib.Core.Path.{_≡_, refl, sym}
 use Prim.Native.Nat.{ℕ, zero, suc}
 use native.Mathlib.Omega.{arith}
+use Rattle.stacks.proofs.Deciding.{true-false}
 use Rattle.marks.specs.Cassettes.{given, first}
 
 pub first-none : (a b : ℕ) → first a b ≡ 0 → (a ≡ 0) × (b ≡ 0)
@@ -28,7 +29,4 @@ not-given false k e = absurd (omega arith)
 
 pub both-true : (s t : Bool) → (s && t) ≡ true → (s ≡ true) × (t ≡ true)
 both-true true t e = (refl, e)
-both-true false t e = (e, absurd (false≢true e))
-  where
-    false≢true : false ≡ true → ⊥
-    false≢true p = let z : _≡_ {A = ℕ} 0 1 = cc in omega arith
+both-true false t e = (e, absurd (true-false (sym e)))

@@ -1,15 +1,15 @@
 -- The marks are the set of the cassettes added, for any count of words: which are marked, and that their number is the number of cassettes where none
 -- is added twice.
-use borrow.Author.Tests.{eq-eqb, ne-eqb, lt-ltb, le-ltb}
+use borrow.Author.Tests.{eq-eqb, ne-eqb}
 use mathlib.Core.List.{List, [], _∷_, _++_}
-use mathlib.Core.Path.{_≡_, refl, sym, ap, _∙_}
-use Prim.Native.Nat.{ℕ, zero, suc, _+_, _*_, _/_, _%_, _^_, max, _≤_, _<_}
+use mathlib.Core.Path.{_≡_, refl, ap, _∙_}
+use Prim.Native.Nat.{ℕ, zero, suc, _+_, _*_, _/_, _%_, _^_, max, min, _≤_, _<_}
 use native.Mathlib.Decide.{ℕ-discrete}
-use native.Mathlib.Nat.{zero-div, add-zero}
+use native.Mathlib.Nat.{zero-div}
 use native.Mathlib.Omega.{arith}
 use lib.Bits.{bitOr}
 use lib.Count.{ones}
-use lib.Dec.{eqb, ltb}
+use lib.Dec.{eqb}
 use lib.ListN.{length, getD, take, set, replicate, length-set, length-replicate}
 use lib.Seq.{getD-set-same, getD-set-other}
 use Rattle.stacks.specs.Count.{count, one}
@@ -33,53 +33,35 @@ with-length w (c ∷ l) = with-length (withMark w c) l ∙ with-mark-length w c
 marked-same : (w : List ℕ) (c : ℕ) → c < 64 * length w → marked (withMark w c) c ≡ 1
 unfolding marked withMark
 marked-same w c h =
-    rw (getD-set-same w (c / 64) (bitOr (getD w (c / 64) 0) (2 ^ (c % 64))) 0 (omega arith))
-    (set-bit-same (getD w (c / 64) 0) (c % 64))
+    let i : c / 64 < length w = omega arith in
+    rw getD-set-same (set-bit-same (getD w (c / 64) 0) (c % 64))
 
 marked-other : (w : List ℕ) (c x : ℕ) → x < 64 * length w → (x ≡ c → ⊥) → marked (withMark w c) x ≡ marked w x
 unfolding marked withMark
 marked-other w c x h d =
     elim (ℕ-discrete (x / 64) (c / 64)) [
       | yes q ↦
-          rw (q, getD-set-same w (c / 64) (bitOr (getD w (c / 64) 0) (2 ^ (c % 64))) 0 (omega arith))
-          (set-bit-other (getD w (c / 64) 0) (x % 64) (c % 64) (omega arith))
-      | no q ↦ rw (getD-set-other w (c / 64) (x / 64) (bitOr (getD w (c / 64) 0) (2 ^ (c % 64))) 0 q)
+          let i : c / 64 < length w = omega arith in
+          rw (q, getD-set-same) (set-bit-other (getD w (c / 64) 0) (x % 64) (c % 64) (omega arith))
+      | no q ↦ rw getD-set-other
     ]
-
--- a mark is 0 or 1
-marked-lt : (w : List ℕ) (c : ℕ) → marked w c < 2
-unfolding marked
-marked-lt w c = omega arith
 
 -- adding x marks x, and changes nothing else
 marked-max : (w : List ℕ) (c x : ℕ) → c < 64 * length w → marked (withMark w x) c ≡ max (marked w c) (one (eqb c x))
+unfolding marked
 marked-max w c x h =
     elim (ℕ-discrete c x) [
       | yes q ↦
           let e : marked (withMark w x) c ≡ 1 = rw (← q) (marked-same w c h) in
-          omega (arith, ap one (eq-eqb c x q), marked-lt w c)
+          omega (arith, ap one (eq-eqb c x q))
       | no q ↦ omega (arith, marked-other w x c h q, ap one (ne-eqb c x q))
     ]
 
--- numbers within a factor of two are both zero or both positive
-same-sign : (a b : ℕ) → a ≤ b → b ≤ 2 * a → ltb 0 a ≡ ltb 0 b
-same-sign zero b h k = sym (le-ltb 0 b (omega arith))
-same-sign (suc a) b h k = lt-ltb 0 (suc a) (omega arith) ∙ sym (lt-ltb 0 b (omega arith))
-
--- a bit is 1 exactly where it is positive
-bit-sign : (b : ℕ) → b < 2 → b ≡ one (ltb 0 b)
-bit-sign zero h = refl
-bit-sign (suc zero) h = refl
-bit-sign (suc (suc b)) h = absurd (omega arith)
-
--- whether a cassette is marked: it was before, or stands in the list
-marked-after : (w l : List ℕ) (c : ℕ) → c < 64 * length w → marked (withMarks w l) c ≡ one (ltb 0 (marked w c + count c l))
-unfolding withMarks count
-marked-after w [] c h = rw add-zero (bit-sign (marked w c) (marked-lt w c))
-marked-after w (x ∷ l) c h =
-    let e : marked (withMark w x) c ≡ max (marked w c) (one (eqb c x)) = marked-max w c x h in
-    marked-after (withMark w x) l c (omega (arith, with-mark-length w x))
-    ∙ ap one (same-sign (marked (withMark w x) c + count c l) (marked w c + (one (eqb c x) + count c l)) (omega arith) (omega arith))
+-- whether a cassette is marked, 1 or 0: it was before, or stands in the list
+marked-after : (w l : List ℕ) (c : ℕ) → c < 64 * length w → marked (withMarks w l) c ≡ min 1 (marked w c + count c l)
+unfolding withMarks count marked
+marked-after w [] c h = omega arith
+marked-after w (x ∷ l) c h = omega (arith, marked-after (withMark w x) l c (omega (arith, with-mark-length w x)), marked-max w c x h)
 
 zeros : (k i : ℕ) → _≡_ {A = ℕ} (getD (replicate k 0) i 0) 0
 zeros zero i = refl
@@ -91,10 +73,8 @@ unfolding marked
 unmarked k c = rw (zeros k (c / 64)) (ap (λ (n : ℕ). n % 2) (zero-div (2 ^ (c % 64))))
 
 -- marks made from none: exactly the cassettes of the list
-pub marked-of : (k : ℕ) (l : List ℕ) (c : ℕ) → c < 64 * k → marked (withMarks (replicate k 0) l) c ≡ one (ltb 0 (count c l))
-marked-of k l c h =
-    let e : marked (replicate k 0) c + count c l ≡ count c l = omega (arith, unmarked k c) in
-    marked-after (replicate k 0) l c (omega (arith, length-replicate {A = ℕ} k 0)) ∙ ap (λ (m : ℕ). one (ltb 0 m)) e
+pub marked-exactly : (k : ℕ) (l : List ℕ) (c : ℕ) → c < 64 * k → marked (withMarks (replicate k 0) l) c ≡ min 1 (count c l)
+marked-exactly k l c h = omega (arith, marked-after (replicate k 0) l c (omega (arith, length-replicate {A = ℕ} k 0)), unmarked k c)
 
 -- a word set to one with one more
 count-set : (w : List ℕ) (i v : ℕ) → i < length w → ones v ≡ ones (getD w i 0) + 1 → markCount (set w i v) ≡ markCount w + 1

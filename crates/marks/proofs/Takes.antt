@@ -1,9 +1,9 @@
 -- Taking one cassette more: the fault by what is marked, and the marks with it.
-use borrow.Author.Tests.{eqb-true, eq-eqb, ne-eqb, lt-ltb, le-ltb, ltb-true, ltb-false, eqb-false}
+use borrow.Author.Tests.{eqb-true, eq-eqb, ne-eqb, lt-ltb, le-ltb, ltb-false, eqb-false}
 use mathlib.Core.Bool.{Bool, true, false, not, _&&_}
 use mathlib.Core.List.{List, [], _∷_, _++_}
 use mathlib.Core.Path.{_≡_, refl, sym, ap, _∙_}
-use Prim.Native.Nat.{ℕ, _+_, _≤_, _<_}
+use Prim.Native.Nat.{ℕ, _+_, min, _≤_, _<_}
 use native.Mathlib.Decide.{ℕ-discrete}
 use native.Mathlib.Omega.{arith}
 use lib.Dec.{eqb, ltb}
@@ -15,7 +15,7 @@ use Rattle.marks.specs.Cassettes.{numbers, mayRepeat, given, cassetteFau
 use Rattle.marks.specs.Marking.{markWords, noMarks, marked, withMark, withMarks, markCount, Marked}
 use Rattle.marks.specs.Taking.{TakenIs}
 use Rattle.marks.proofs.Faulted.{first-none, given-none, both-true}
-use Rattle.marks.proofs.MarkLaws.{with-more, marked-of, count-of}
+use Rattle.marks.proofs.MarkLaws.{with-more, marked-exactly, count-of}
 
 -- "No cassette stands twice in a store."
 pub none-repeats : (c : ℕ) → mayRepeat c ≡ false
@@ -24,14 +24,6 @@ none-repeats c = refl
 
 -- the fault of one cassette more, by cases
 module _ (l : List ℕ) (c : ℕ) where
-  pub zero-refused : c ≡ 0 → cassetteFault l c ≡ 4
-  unfolding cassetteFault
-  zero-refused e = simp (eq-eqb c 0 e)
-
-  pub twice-refused : (c ≡ 0 → ⊥) → mayRepeat c ≡ false → 0 < count c l → cassetteFault l c ≡ 5
-  unfolding cassetteFault
-  twice-refused n r h = simp (ne-eqb c 0 n, r, lt-ltb 0 (count c l) h)
-
   pub cassette-taken : (c ≡ 0 → ⊥) → (mayRepeat c ≡ false → count c l ≡ 0) → cassetteFault l c ≡ 0
   unfolding cassetteFault
   cassette-taken n h = simp (ne-eqb c 0 n) (by-repeat (mayRepeat c) refl)
@@ -46,28 +38,18 @@ module _ (l : List ℕ) (c : ℕ) where
       let p = first-none _ _ e in
       (eqb-false c 0 (given-none _ 3 (p .0)), λ r. let h : count c l ≤ 0 = ltb-false 0 (count c l) (sym (ap (λ (t : Bool). not t && ltb 0 (count c l)) r) ∙ given-none _ 4 (p .1)) in omega arith)
 
-one-true : (t : Bool) → one t ≡ 1 → t ≡ true
-one-true true e = refl
-one-true false e = absurd (omega arith)
-
-not-one : (t : Bool) → eqb (one t) 1 ≡ false → t ≡ false
-not-one true e = absurd (let z : _≡_ {A = ℕ} 0 1 = cc in omega arith)
-not-one false e = refl
-
 -- what the mark of a cassette says
 module _ (words l : List ℕ) (c : ℕ) (m : Marked words l) (h : c < numbers) where
-  is-one : marked words c ≡ one (ltb 0 (count c l))
-  is-one = ap (λ (v : List ℕ). marked v c) (m .marks) ∙ marked-of markWords l c h
+  pub mark-is : marked words c ≡ min 1 (count c l)
+  mark-is = ap (λ (v : List ℕ). marked v c) (m .marks) ∙ marked-exactly markWords l c h
 
   -- a marked cassette stands in the list
-  pub mark-found : eqb (marked words c) 1 ≡ true → 0 < count c l
-  mark-found t = ltb-true 0 (count c l) (one-true _ (sym is-one ∙ eqb-true (marked words c) 1 t))
+  mark-found : eqb (marked words c) 1 ≡ true → 0 < count c l
+  mark-found t = omega (arith, mark-is, eqb-true (marked words c) 1 t)
 
   -- a cassette without a mark does not
-  pub mark-missing : eqb (marked words c) 1 ≡ false → count c l ≡ 0
-  mark-missing t =
-      let z : count c l ≤ 0 = ltb-false 0 (count c l) (not-one _ (ap (λ (n : ℕ). eqb n 1) (sym is-one) ∙ t)) in
-      omega arith
+  mark-missing : eqb (marked words c) 1 ≡ false → count c l ≡ 0
+  mark-missing t = let n : marked words c ≡ 1 → ⊥ = eqb-false (marked words c) 1 t in omega (arith, mark-is)
 
 pub nothing-marked : Marked noMarks []
 unfolding withMarks count
@@ -94,21 +76,23 @@ marked-more words l c m h z = record {
 -- the answers of taking a cassette
 module _ (words : List ℕ) (c : ℕ) where
   pub zero-is : c ≡ 0 → TakenIs words c words NumberZero
+  unfolding cassetteFault
   zero-is e = record {
     number = sym (simp (eq-eqb c 0 e));
     words-are = refl;
-    fault = λ before m. sym (zero-refused before c e);
+    fault = λ before m. sym (simp (eq-eqb c 0 e));
     marks = λ before m. refl;
   }
 
   module _ (n : c ≡ 0 → ⊥) (h : c < numbers) where
     pub twice-is : (not (mayRepeat c) && eqb (marked words c) 1) ≡ true → TakenIs words c words Twice
+    unfolding cassetteFault
     twice-is t =
         let p = both-true (not (mayRepeat c)) (eqb (marked words c) 1) t in
         record {
           number = sym (simp (ne-eqb c 0 n, t));
           words-are = refl;
-          fault = λ before m. sym (twice-refused before c n (none-repeats c) (mark-found words before c m h (p .1)));
+          fault = λ before m. sym (simp (ne-eqb c 0 n, none-repeats c, lt-ltb 0 (count c before) (mark-found words before c m h (p .1))));
           marks = λ before m. refl;
         }
 

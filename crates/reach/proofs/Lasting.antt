@@ -6,7 +6,7 @@ use mathlib.Core.Path.{_≡_, refl, sym, ap, _∙_, subst}
 use Prim.Native.Nat.{ℕ, zero, suc, _-_, _<_}
 use native.Mathlib.Decide.{ℕ-discrete, decLt}
 use native.Mathlib.Omega.{arith}
-use Rattle.stacks.specs.Count.{one, count, occurrences, total, empties, lowest}
+use Rattle.stacks.specs.Count.{one, count, occurrences, empties, lowest}
 use Rattle.stacks.proofs.Floors.{floors-kept}
 use Rattle.stacks.proofs.Kept.{occurrences-kept, total-kept}
 use Rattle.stacks.proofs.Sums.{term-le-sum, some-positive}
@@ -30,9 +30,6 @@ SameLowest s t =
 module _ {s t : Store} {bs : List ℕ} (p : Shaped s) (l : Leads s bs t) where
   pub leads-occurrences : (c : ℕ) → occurrences (s .m) c (stack s) ≡ occurrences (s .m) c (stack t)
   leads-occurrences = occurrences-kept (leads-run p l)
-
-  leads-total : total (s .m) (stack s) ≡ total (s .m) (stack t)
-  leads-total = total-kept (leads-run p l)
 
   pub leads-floors : SameLowest s t
   leads-floors = floors-kept (shaped-within s p) (leads-run p l)
@@ -78,15 +75,10 @@ module _ {s t : Store} {bs : List ℕ} (p : Shaped s) (l : Leads s bs t) where
       omega (arith, y .less, none-counted s 0 (y .place) (height s (y .place)) (f (y .place)))
 
   pub leads-counts : (c : ℕ) → count c (cassettes t) ≡ count c (cassettes s)
-  leads-counts c =
-      sym (occurrences-agree t c)
-      ∙ ap (λ (m : ℕ). occurrences m c (stack t)) (sym (leads-frame l .shafts))
-      ∙ sym (leads-occurrences p l c)
-      ∙ occurrences-agree s c
+  leads-counts c = cc (occurrences-agree t c, leads-frame l .shafts, leads-occurrences p l c, occurrences-agree s c)
 
   pub leads-count : cassetteCount t ≡ cassetteCount s
-  leads-count =
-      sym (total-agrees t) ∙ ap (λ (m : ℕ). total m (stack t)) (sym (leads-frame l .shafts)) ∙ sym (leads-total p l) ∙ total-agrees s
+  leads-count = cc (total-agrees t, leads-frame l .shafts, total-kept (leads-run p l), total-agrees s)
 
 -- stores of one frame have the same depths
 pub frame-depths : {s t : Store} → SameFrame s t → depth s ≡ depth t

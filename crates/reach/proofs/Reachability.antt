@@ -2,7 +2,7 @@
 use mathlib.Core.List.{List, [], _∷_, map, reverseAux}
 use mathlib.Core.Logic.{_↔_}
 use mathlib.Core.Path.{_≡_, refl, sym, ap, _∙_, subst, subst₂}
-use Prim.Native.Nat.{ℕ, zero, suc, _-_, _≤_, _<_}
+use Prim.Native.Nat.{ℕ, zero, suc, _≤_, _<_}
 use native.Mathlib.Omega.{arith}
 use lib.ListN.{length, length-map}
 use Rattle.stacks.specs.Run.{Stacks, Lift, turned, Run, Within, Reached}

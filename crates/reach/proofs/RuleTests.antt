@@ -3,9 +3,8 @@ use borrow.Author.Tests.{eqb-true, eq-eqb}
 use mathlib.Core.Bool.{true, _&&_}
 use mathlib.Core.List.{List, [], _∷_}
 use mathlib.Core.Logic.{_⊎_}
-use mathlib.Core.Path.{_≡_, refl, subst}
+use mathlib.Core.Path.{_≡_, refl, sym, subst}
 use Prim.Native.Nat.{ℕ, zero, suc}
-use native.Mathlib.Omega.{arith}
 use lib.Dec.{eqb}
 use Rattle.store.specs.declared.Store.{Store}
 use Rattle.store.specs.Slots.{upward}
@@ -17,19 +16,15 @@ use Rattle.stacks.specs.Deciding.{Decides}
 use Rattle.reach.specs.Pairs.{Comparable}
 use Rattle.reach.specs.Rules.{twoShaftReading, floor, RuleFor, Rule}
 use Rattle.reach.specs.Tests.{sameList, sameStore, sameFloor, ruleTestFor, ruleTest}
-use Rattle.stacks.proofs.Deciding.{decides-as, decides-by, decided}
-use Rattle.reach.proofs.Reachability.{reachable-rule, rule-reaches}
+use Rattle.stacks.proofs.Deciding.{true-false, decides-as, decides-by, decided}
+use Rattle.reach.proofs.Reachability.{reachable-rule, reachable-exactly}
 
 same-list : (l r : List ℕ) → sameList l r ≡ true → l ≡ r
 unfolding sameList
 same-list [] [] e = refl
-same-list [] (y ∷ r) e = absurd (let z : _≡_ {A = ℕ} 0 1 = cc in omega arith)
-same-list (x ∷ l) [] e = absurd (let z : _≡_ {A = ℕ} 0 1 = cc in omega arith)
-same-list (x ∷ l) (y ∷ r) e =
-    let p = both-true (eqb x y) (sameList l r) e in
-    let q = eqb-true x y (p .0) in
-    let u = same-list l r (p .1) in
-    λ i. q i ∷ u i
+same-list [] (y ∷ r) e = absurd (true-false (sym e))
+same-list (x ∷ l) [] e = absurd (true-false (sym e))
+same-list (x ∷ l) (y ∷ r) e = let p = both-true (eqb x y) (sameList l r) e in cc (eqb-true x y (p .0), same-list l r (p .1))
 
 list-same : (l : List ℕ) → sameList l l ≡ true
 unfolding sameList
@@ -62,17 +57,14 @@ pub store-test : (s t : Store) → Decides (sameStore s t) (s ≡ t)
 store-test s t = decides-by (sameStore s t) (same-store s t) (λ e. subst (λ (u : Store). sameStore s u ≡ true) e (store-same s))
 
 module _ (s t : Store) where
-  floor-test : (x : ℕ) → Decides (sameFloor s t x) (upward s x (floor s x) ≡ upward t x (floor s x))
-  unfolding sameFloor
-  floor-test x = list-test (upward s x (floor s x)) (upward t x (floor s x))
-
   rule-for : (m : ℕ) → Decides (ruleTestFor m s t) (RuleFor m s t)
   unfolding sameFloor
   rule-for zero = store-test s t
   rule-for (suc zero) = store-test s t
   rule-for (suc (suc zero)) = list-test (twoShaftReading s) (twoShaftReading t)
   rule-for (suc (suc (suc k))) =
-      decides-by (allBelow (s .m) (sameFloor s t)) (λ e x h. floor-test x .so (all-true (s .m) (sameFloor s t) e x h))
+      decides-by (allBelow (s .m) (sameFloor s t))
+      (λ e x h. same-list (upward s x (floor s x)) (upward t x (floor s x)) (all-true (s .m) (sameFloor s t) e x h))
       (λ r. all-of (s .m) (sameFloor s t) (λ x h. list-equal (upward s x (floor s x)) (upward t x (floor s x)) (r x h)))
 
   pub rule-test : Decides (ruleTest s t) (Rule s t)
@@ -82,8 +74,7 @@ module _ (s t : Store) where
   -- for comparable stores the same test says whether the goal can be reached
   module _ (p : Comparable s t) where
     pub reachable-test : Decides (ruleTest s t) (Reachable s t)
-    reachable-test =
-        decides-as (λ r. let l = rule-reaches s t p r in record { lifts = l .lifts; leads = l .leads }) (reachable-rule s t p) rule-test
+    reachable-test = decides-as (reachable-exactly s t p .1) (reachable-rule s t p) rule-test
 
     pub reachable-decided : Reachable s t ⊎ (Reachable s t → ⊥)
     reachable-decided = decided (ruleTest s t) reachable-test

@@ -1,13 +1,13 @@
 -- How often a number stands in a list, and that stores in which every number stands equally often hold equally many cassettes.
-use mathlib.Core.Path.{_≡_, refl, sym, ap, _∙_, subst}
+use borrow.Author.Tests.{eq-eqb, ne-eqb}
+use mathlib.Core.Path.{_≡_, refl, sym, ap, _∙_}
 use mathlib.Core.List.{List, [], _∷_, _++_}
-use mathlib.Core.Bool.{Bool, true, false}
 use Prim.Native.Nat.{ℕ, zero, suc, _+_, _<_}
+use native.Mathlib.Decide.{ℕ-discrete}
 use native.Mathlib.Omega.{arith}
-use lib.Dec.{T, eqb, eqb→eq, eqb-refl}
 use lib.ListN.{length, length-append}
 use Rattle.stacks.specs.Run.{Stacks}
-use Rattle.stacks.specs.Count.{one, count, occurrences, total}
+use Rattle.stacks.specs.Count.{sum, one, count, occurrences, total}
 
 -- The count of two lists joined.
 pub count-append : (c : ℕ) (l r : List ℕ) → count c (l ++ r) ≡ count c l + count c r
@@ -18,11 +18,7 @@ count-append c (x ∷ l) r = omega (arith, count-append c l r)
 -- The number on top is counted.
 pub count-own : (c : ℕ) (l : List ℕ) → 0 < count c (c ∷ l)
 unfolding count
-count-own c l = go (eqb c c) (eqb-refl c)
-  where
-    go : (b : Bool) → T b → 0 < one b + count c l
-    go true t = omega arith
-    go false t = absurd t
+count-own c l = omega (arith, ap one (eq-eqb c c refl))
 
 -- A place where c stands in a list.
 pub record Standing (c : ℕ) (l : List ℕ) : Type 0 where
@@ -34,44 +30,39 @@ pub record Standing (c : ℕ) (l : List ℕ) : Type 0 where
 pub standing : (c : ℕ) (l : List ℕ) → 0 < count c l → Standing c l
 unfolding count
 standing c [] h = absurd (omega arith)
-standing c (x ∷ l) h = go (eqb c x) refl h (standing c l)
-  where
-    lower : Standing c l → Standing c (x ∷ l)
-    lower s = record { above = x ∷ s .above; under = s .under; split = ap (λ (r : List ℕ). x ∷ r) (s .split) }
-
-    go : (b : Bool) → eqb c x ≡ b → 0 < one b + count c l → (0 < count c l → Standing c l) → Standing c (x ∷ l)
-    go true e p ih = record { above = []; under = l; split = ap (λ (y : ℕ). y ∷ l) (sym (eqb→eq c x (subst T (sym e) tt))) }
-    go false e p ih = lower (ih (omega arith))
+standing c (x ∷ l) h = elim (ℕ-discrete c x) [
+  | yes e ↦ record { above = []; under = l; split = rw e }
+  | no n ↦
+      let s = standing c l (omega (arith, ap one (ne-eqb c x n))) in
+      record { above = x ∷ s .above; under = s .under; split = ap (λ (r : List ℕ). x ∷ r) (s .split) }
+]
 
 -- Lists in which every number stands equally often are equally long.
 pub same-length : (l r : List ℕ) → ((c : ℕ) → count c l ≡ count c r) → length l ≡ length r
 unfolding count
 same-length [] [] h = refl
 same-length [] (x ∷ r) h = absurd (omega (arith, h x, count-own x r))
-same-length (x ∷ l) r h = go (standing x r (omega (arith, h x, count-own x l))) (same-length l)
-  where
-    go : Standing x r → ((q : List ℕ) → ((c : ℕ) → count c l ≡ count c q) → length l ≡ length q) → suc (length l) ≡ length r
-    go s ih =
-        let rest : (c : ℕ) → count c l ≡ count c (s .above ++ s .under)
-        = λ c. simp count-append (omega (arith, h c, simp count-append at (ap (count c) (s .split)))) in
-        rw (s .split) (simp length-append (omega (arith, simp length-append at (ih (s .above ++ s .under) rest))))
+same-length (x ∷ l) r h =
+    let s = standing x r (omega (arith, h x, count-own x l)) in
+    let rest : (c : ℕ) → count c l ≡ count c (s .above ++ s .under) = λ c. simp count-append (omega (arith, h c, simp count-append at (ap (count c) (s .split)))) in
+    rw (s .split) (simp length-append (omega (arith, simp length-append at (same-length l (s .above ++ s .under) rest))))
 
 -- All shafts in one list.
 all : ℕ → Stacks → List ℕ
 all zero S = []
 all (suc m) S = all m S ++ S m
 
-count-all : (m c : ℕ) (S : Stacks) → count c (all m S) ≡ occurrences m c S
-unfolding all count occurrences
-count-all zero c S = refl
-count-all (suc m) c S = simp count-append (omega (arith, count-all m c S))
-
-length-all : (m : ℕ) (S : Stacks) → length (all m S) ≡ total m S
-unfolding all total
-length-all zero S = refl
-length-all (suc m) S = simp length-append (omega (arith, length-all m S))
+-- What adds up over a list adds up over the shafts.
+all-adds : (f : List ℕ → ℕ) → f [] ≡ 0 → ((l r : List ℕ) → f (l ++ r) ≡ f l + f r) → (m : ℕ) (S : Stacks) → f (all m S) ≡ sum m (λ i. f (S i))
+unfolding all sum
+all-adds f none more zero S = none
+all-adds f none more (suc m) S = omega (arith, more (all m S) (S m), all-adds f none more m S)
 
 -- Stores in which every number stands equally often hold equally many cassettes.
 pub same-total : (m : ℕ) (S T : Stacks) → ((c : ℕ) → occurrences m c S ≡ occurrences m c T) → total m S ≡ total m T
+unfolding occurrences total count
 same-total m S T h =
-    sym (length-all m S) ∙ same-length (all m S) (all m T) (λ c. count-all m c S ∙ h c ∙ sym (count-all m c T)) ∙ length-all m T
+    let long = all-adds length refl length-append m in
+    let often : (c : ℕ) → count c (all m S) ≡ count c (all m T) =
+    λ c. omega (arith, all-adds (count c) refl (count-append c) m S, h c, all-adds (count c) refl (count-append c) m T) in
+    sym (long S) ∙ same-length (all m S) (all m T) often ∙ long T

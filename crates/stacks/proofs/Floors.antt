@@ -24,9 +24,7 @@ room m d S h i p =
 -- What stands on the lowest k is no part of them.
 lowest-cons : (k c : ℕ) (l : List ℕ) → k ≤ length l → lowest k (c ∷ l) ≡ lowest k l
 unfolding lowest
-lowest-cons k c l h =
-    let e : suc (length l) - k ≡ suc (length l - k) = omega arith in
-    rw e
+lowest-cons k c l h = let e : suc (length l) - k ≡ suc (length l - k) = omega arith in rw e
 
 -- One lift never changes the floors.
 floors-of-step : {m : ℕ} {d : ℕ → ℕ} {S T : Stacks} {l : Lift} → Within m d S → Within m d T → empties m d S ≡ empties m d T → Step m d l S T

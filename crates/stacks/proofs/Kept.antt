@@ -4,7 +4,7 @@ use mathlib.Core.List.{List, [], _∷_}
 use Prim.Native.Nat.{ℕ, _+_, _≤_}
 use native.Mathlib.Omega.{arith}
 use lib.ListN.{length}
-use Rattle.stacks.specs.Run.{Stacks, Lift, Step, Run, done, step}
+use Rattle.stacks.specs.Run.{Stacks, Lift, Run, done, step}
 use Rattle.stacks.specs.Count.{sum, count, occurrences, total, empties}
 use Rattle.stacks.proofs.Sums.{sum-differ-two}
 
@@ -13,17 +13,15 @@ module _ (m : ℕ) (d : ℕ → ℕ) where
   weight-kept : (weight : List ℕ → ℕ) (each : ℕ → ℕ) → ((x : ℕ) (l : List ℕ) → weight (x ∷ l) ≡ each x + weight l)
       → {S T : Stacks} {ls : List Lift} → Run m d S ls T → sum m (λ i. weight (S i)) ≡ sum m (λ i. weight (T i))
   weight-kept weight each law done = refl
-  weight-kept weight each law {S} (step {T = T} {l = l} s r) = one-step s ∙ weight-kept weight each law r
-    where
-      one-step : Step m d l S T → sum m (λ i. weight (S i)) ≡ sum m (λ i. weight (T i))
-      one-step s =
-          omega (
-            arith,
-            ap weight (s .taken) ∙ law (s .cassette) (T (l .left)),
-            ap weight (s .placed) ∙ law (s .cassette) (S (l .entered)),
-            sum-differ-two m (λ i. weight (S i)) (λ i. weight (T i)) (l .left) (l .entered) (s .differ) (s .left-below) (s .entered-below)
-                (λ i p q r. ap weight (sym (s .kept i q r))),
-          )
+  weight-kept weight each law {S} (step {T = T} {l = l} s r) =
+      omega (
+        arith,
+        weight-kept weight each law r,
+        ap weight (s .taken) ∙ law (s .cassette) (T (l .left)),
+        ap weight (s .placed) ∙ law (s .cassette) (S (l .entered)),
+        sum-differ-two m (λ i. weight (S i)) (λ i. weight (T i)) (l .left) (l .entered) (s .differ) (s .left-below) (s .entered-below)
+            (λ i p q r. ap weight (sym (s .kept i q r))),
+      )
 
 module _ {m : ℕ} {d : ℕ → ℕ} {S T : Stacks} {ls : List Lift} where
   -- A legal list keeps how often each number stands.

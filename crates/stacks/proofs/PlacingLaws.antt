@@ -112,11 +112,10 @@ pub record Advanced (m : ℕ) (d : ℕ → ℕ) (e : ℕ) (P : Stacks) (b v : �
 
 -- the lifts left after one of them aside, and after one across
 aside-left : (k l r k′ l′ r′ : ℕ) → Spare k l r → k + l ≡ suc (k′ + l′) → k′ ≤ k → l′ ≤ l → r ≡ suc r′ → liftsLeft k′ l′ r′ < liftsLeft k l r
-aside-left k l r k′ l′ r′ s e f g h = go (decLe (k + l) r)
-  where
-    go : Dec (k + l ≤ r) → liftsLeft k′ l′ r′ < liftsLeft k l r
-    go (yes z) = omega (arith, left-plain k l r z, left-plain k′ l′ r′ (omega arith))
-    go (no z) = omega (arith, left-pass k l r (omega arith), left-pass k′ l′ r′ (omega arith))
+aside-left k l r k′ l′ r′ s e f g h = elim (decLe (k + l) r) [
+  | yes z ↦ omega (arith, left-plain k l r z, left-plain k′ l′ r′ (omega arith))
+  | no z ↦ omega (arith, left-pass k l r (omega arith), left-pass k′ l′ r′ (omega arith))
+]
 
 -- where one may be lifted aside, a slot is left for the rest
 spare-way : {k l r : ℕ} (k′ l′ r′ : ℕ) → Spare k l r → k + l ≡ suc (k′ + l′) → r ≡ suc r′ → 0 < k′ + l′ → 0 < r′

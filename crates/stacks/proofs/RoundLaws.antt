@@ -3,7 +3,7 @@
 use mathlib.Core.Path.{_≡_, refl, sym, ap, _∙_, fun-ext}
 use mathlib.Core.Logic.{_≢_, Ne·symm}
 use mathlib.Core.List.{List, [], _∷_, _++_, append-assoc}
-use Prim.Native.Nat.{ℕ, suc, _+_, _-_, _≤_, _<_}
+use Prim.Native.Nat.{ℕ, suc, _+_, _≤_, _<_}
 use native.Mathlib.Decide.{decLt}
 use native.Mathlib.Omega.{arith}
 use lib.ListN.{length, length-append}
@@ -131,8 +131,6 @@ module _ {m : ℕ} {d : ℕ → ℕ} {e : ℕ} {G S P : Stacks} (h : Halfway m d
   pub find : (b v : ℕ) → Usable m b → Onto (v ∷ P b) (G b) → Found v
   find b v p o =
       let w : G b ≡ (o .above ++ (v ∷ [])) ++ P b = o .split ∙ sym (append-assoc (o .above) (v ∷ []) (P b)) in
-      let c : count v (G b) ≡ count v (o .above) + count v (v ∷ []) + count v (P b)
-      = ap (count v) w ∙ simp count-append in
       let a = some-positive m (λ i. count v (h .passed .onto i .above))
       (omega (
         arith,
@@ -141,7 +139,7 @@ module _ {m : ℕ} {d : ℕ → ℕ} {e : ℕ} {G S P : Stacks} (h : Halfway m d
         occurrences-on v G (h .goal),
         term-le-sum m (λ i. count v (h .goal i .above)) b p,
         ap (count v) (h .goal b .split) ∙ count-append v (h .goal b .above) (P b),
-        c,
+        simp count-append at (ap (count v) w),
         count-own v [],
       )) in
       at (a .place) (a .below) (standing v (h .passed .onto (a .place) .above) (a .less))
@@ -166,19 +164,9 @@ module _ {m : ℕ} {d : ℕ → ℕ} {e : ℕ} {G S P : Stacks} (h : Halfway m d
   -- Where all of the goal is passed, the store is the goal.
   pub finished : ((i : ℕ) → Usable m i → length (G i) ≤ length (P i)) → S ≡ G
   unfolding total
-  finished z = fun-ext (λ i. go i (decLt i m))
-    where
-      bottom : (i : ℕ) → Usable m i → G i ≡ P i
-      bottom i p = onto-all (h .goal i) (z i p)
-
-      go : (i : ℕ) → Dec (i < m) → S i ≡ G i
-      go i (yes p) =
-          onto-all (h .passed .onto i)
-          (omega (
-            arith,
-            same-total m S G (h .counts),
-            ap length (bottom i p),
-            sum-le-outside m (λ j. length (G j)) (λ j. length (S j)) i p (λ j q n. omega (arith, ap length (bottom j q), onto-length (h .passed .onto j))),
-          ))
-          ∙ sym (bottom i p)
-      go i (no p) = h .beyond i (omega arith)
+  finished z = fun-ext (λ i. elim (decLt i m) [
+    | yes p ↦
+        let others = sum-le-outside m (λ j. length (G j)) (λ j. length (S j)) i p (λ j q n. omega (arith, z j q, onto-length (h .passed .onto j))) in
+        onto-all (h .passed .onto i) (omega (arith, same-total m S G (h .counts), z i p)) ∙ sym (onto-all (h .goal i) (z i p))
+    | no p ↦ h .beyond i (omega arith)
+  ])

@@ -1,5 +1,5 @@
 -- Three shafts or more: rounds lead from every store to every other with its numbers and floors, by a list within the bound.
-use mathlib.Core.Path.{_≡_, sym, ap}
+use mathlib.Core.Path.{_≡_, sym, ap, subst}
 use mathlib.Core.List.{List, _∷_}
 use Prim.Native.Nat.{ℕ, zero, suc, _+_, _*_, _-_, _≤_, _<_}
 use native.Mathlib.Nat.{suc-mul, mul-le-mul, mul-comm, mul-add}
@@ -10,47 +10,34 @@ use Rattle.stacks.specs.Run.{Stacks, Usable, Within, Reached}
 use Rattle.stacks.specs.Count.{sum, occurrences, total, empties, lowest}
 use Rattle.stacks.specs.Placing.{Onto, all, Halfway}
 use Rattle.stacks.proofs.Bottoms.{onto-length}
-use Rattle.stacks.proofs.Sums.{sum-le, sum-le-outside, Look, found, nowhere, look, sum-differ-one}
+use Rattle.stacks.proofs.Sums.{sum-le, sum-le-outside, some-less, sum-differ-one}
 use Rattle.stacks.proofs.Counts.{same-total}
-use Rattle.stacks.proofs.Stores.{put, put-same, put-other, reached-then, reached-within}
+use Rattle.stacks.proofs.Stores.{put, put-same, put-other, reached-here, reached-after, reached-within}
 use Rattle.stacks.proofs.Floors.{filled-and-empty, room}
-use Rattle.stacks.proofs.Round.{NextUp, next-up, arrived, round}
+use Rattle.stacks.proofs.RoundLaws.{finished}
+use Rattle.stacks.proofs.Round.{next-on, round}
 
 module _ (m : ℕ) (d : ℕ → ℕ) (e h : ℕ) (three : 3 ≤ m) (deep : (i : ℕ) → Usable m i → 0 < d i) (shallow : (i : ℕ) → Usable m i → d i ≤ h) (G : Stacks) (G-within : Within m d G) where
   -- Rounds lead to the goal: n rows of it are not passed yet.
   rounds : (n : ℕ) (S P : Stacks) → sum m (λ i. length (G i)) ≡ n + sum m (λ i. length (P i)) → Halfway m d e G S P → Reached m d S G (n * (4 * h + 8))
-  rounds zero S P z w = go (look m m (λ i. length (P i)) (λ i. length (G i)))
-    where
-      go : Look m m (λ i. length (P i)) (λ i. length (G i)) → Reached m d S G (0 * (4 * h + 8))
-      go (nowhere f) = arrived m d e h three deep shallow G G-within w f 0
-      go (found b) =
-          absurd (omega (
-            arith,
-            b .less,
-            sum-le-outside m (λ i. length (P i)) (λ i. length (G i)) (b .place) (b .below) (λ i p n. onto-length (w .goal i)),
-          ))
-  rounds (suc n) S P z w = go (look m m (λ i. length (P i)) (λ i. length (G i))) (rounds n)
-    where
-      Rest : Type 0
-      Rest = (S P : Stacks) → sum m (λ i. length (G i)) ≡ n + sum m (λ i. length (P i)) → Halfway m d e G S P → Reached m d S G (n * (4 * h + 8))
-
-      more : (b : ℕ) → Usable m b → NextUp (P b) (G b) → Rest → Reached m d S G (suc n * (4 * h + 8))
-      more b u t ih =
-          let x = round m d e h three deep shallow G G-within u (t .onto) w in
-          let Q : Stacks = put P b (t .next ∷ P b) in
-          reached-within (omega (arith, suc-mul n (4 * h + 8)))
-          (reached-then (x .reached)
-          (ih (x .store) Q
-          (omega (
-            arith,
-            ap length (put-same P b (t .next ∷ P b)),
-            sum-differ-one m (λ i. length (P i)) (λ i. length (Q i)) b u (λ i _ n. ap length (sym (put-other P b (t .next ∷ P b) i n))),
-          ))
-          (x .halfway)))
-
-      go : Look m m (λ i. length (P i)) (λ i. length (G i)) → Rest → Reached m d S G (suc n * (4 * h + 8))
-      go (nowhere f) ih = arrived m d e h three deep shallow G G-within w f (suc n)
-      go (found b) ih = more (b .place) (b .below) (next-up (w .goal (b .place)) (b .less)) ih
+  rounds zero S P z w =
+      subst (λ (T : Stacks). Reached m d S T (0 * (4 * h + 8)))
+      (finished w (λ i u. omega (arith, sum-le-outside m (λ i. length (P i)) (λ i. length (G i)) i u (λ i p n. onto-length (w .goal i)))))
+      (reached-here m d S (0 * (4 * h + 8)))
+  rounds (suc n) S P z w =
+      let a = some-less m (λ i. length (P i)) (λ i. length (G i)) (omega arith) in
+      let b = a .place in
+      let t = next-on (w .goal b) (a .less) in
+      let Q : Stacks = put P b (t .0 ∷ P b) in
+      let x = round m d e h three deep shallow G G-within (a .below) (t .1) w in
+      reached-after (omega (arith, suc-mul n (4 * h + 8))) (x .reached)
+      (rounds n (x .store) Q
+      (omega (
+        arith,
+        ap length (put-same P b (t .0 ∷ P b)),
+        sum-differ-one m (λ i. length (P i)) (λ i. length (Q i)) b (a .below) (λ i _ n. ap length (sym (put-other P b (t .0 ∷ P b) i n))),
+      ))
+      (x .so))
 
 -- What stands on the lowest k of a stack.
 top-on-lowest : (k : ℕ) (l : List ℕ) → Onto (lowest k l) l

@@ -18,11 +18,6 @@ step-within {l = l} s h =
     everywhere _ (l .left) (λ b. omega (arith, ap length (s .taken), h (l .left) b))
     (everywhere _ (l .entered) (λ n b. rw (s .placed) (s .room)) (λ i e n b. rw (s .kept i n e) (h i b)))
 
--- A run keeps every stack within its depth.
-pub run-within : {m : ℕ} {d : ℕ → ℕ} {S T : Stacks} {ls : List Lift} → Run m d S ls T → Within m d S → Within m d T
-run-within done h = h
-run-within (step s r) h = run-within r (step-within s h)
-
 -- A step turned about leads back.
 pub step-back : {m : ℕ} {d : ℕ → ℕ} {l : Lift} {S T : Stacks} → Within m d S → Step m d l S T → Step m d (turned l) T S
 step-back {l = l} h s =

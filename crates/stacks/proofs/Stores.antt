@@ -1,5 +1,5 @@
 -- Changing one shaft of a store or two, one lift made on a store, and legal lists of bounded length put one after the other.
-use mathlib.Core.Path.{_≡_, refl, _∙_}
+use mathlib.Core.Path.{_≡_, refl, sym, _∙_, fun-ext}
 use mathlib.Core.Logic.{_≢_}
 use mathlib.Core.List.{List, [], _∷_, _++_}
 use mathlib.Core.Bool.{cond}
@@ -11,6 +11,7 @@ use lib.ListN.{length, length-append}
 use Rattle.stacks.specs.Run.{Stacks, Lift, Step, done, step, Reached}
 use Rattle.stacks.specs.Moves.{lift}
 use Rattle.stacks.proofs.Runs.{run-append}
+use Rattle.stacks.proofs.Sums.{everywhere}
 
 -- The store with the stack v in shaft a.
 pub put : Stacks → ℕ → List ℕ → Stacks
@@ -80,12 +81,27 @@ pub lift-then : {m : ℕ} {d : ℕ → ℕ} {l : Lift} {S T U : Stacks} {k : ℕ
 lift-then {l = l} s p = record { lifts = l ∷ p .lifts; runs = step s (p .runs); short = omega arith }
 
 -- One list after another.
-pub reached-then : {m : ℕ} {d : ℕ → ℕ} {S T U : Stacks} {k l : ℕ} → Reached m d S T k → Reached m d T U l → Reached m d S U (k + l)
-reached-then p q = record {
-  lifts = p .lifts ++ q .lifts;
-  runs = run-append (p .runs) (q .runs);
-  short = simp length-append (omega arith);
-}
+pub reached-after : {m : ℕ} {d : ℕ → ℕ} {S T U : Stacks} {k l n : ℕ} → k + l ≤ n → Reached m d S T k → Reached m d T U l → Reached m d S U n
+reached-after h p q = record { lifts = p .lifts ++ q .lifts; runs = run-append (p .runs) (q .runs); short = simp length-append (omega arith) }
+
+-- Some list of at most `bound` lifts leads from S to a store with Q.
+pub record Leading (m : ℕ) (d : ℕ → ℕ) (S : Stacks) (Q : Stacks → Type 0) (bound : ℕ) : Type 0 where
+  pub store : Stacks
+  pub reached : Reached m d S store bound
+  pub so : Q store
+
+-- A list, and then another to such a store.
+pub leading-after : {m : ℕ} {d : ℕ → ℕ} {S T : Stacks} {Q : Stacks → Type 0} {k l n : ℕ} → k + l ≤ n → Reached m d S T k → Leading m d T Q l → Leading m d S Q n
+leading-after h r w = record { store = w .store; reached = reached-after h r (w .reached); so = w .so }
+
+-- One lift, and then such a list.
+pub leading-lift : {m : ℕ} {d : ℕ → ℕ} {l : Lift} {S T : Stacks} {Q : Stacks → Type 0} {k : ℕ} → Step m d l S T → Leading m d T Q k → Leading m d S Q (suc k)
+leading-lift s w = record { store = w .store; reached = lift-then s (w .reached); so = w .so }
+
+-- A shaft c lowered to q while b got x, and paid back.
+pub put-back : (P : Stacks) (b c z : ℕ) (x q : List ℕ) → c ≢ b → P c ≡ z ∷ q → put (put (put P c q) b x) c (z ∷ put (put P c q) b x c) ≡ put P b x
+unfolding put
+put-back P b c z x q cb pc = fun-ext (everywhere _ c (rw (eq-eqb c c refl, ne-eqb c b cb) (sym pc)) (λ i n. rw (ne-eqb i c n)))
 
 -- A bound may be raised.
 pub reached-within : {m : ℕ} {d : ℕ → ℕ} {S T : Stacks} {k l : ℕ} → k ≤ l → Reached m d S T k → Reached m d S T l

@@ -1,5 +1,5 @@
 -- Sums over the shafts: what changes where two functions differ at one place or at two, and how a smaller place is found from the sums.
-use mathlib.Core.Path.{_≡_, refl, sym, ap, _∙_, subst⁻¹}
+use mathlib.Core.Path.{_≡_, sym, ap, _∙_, subst⁻¹}
 use mathlib.Core.Logic.{_≢_}
 use Prim.Native.Nat.{ℕ, zero, suc, _+_, _*_, _≤_, _<_}
 use native.Mathlib.Nat.{le-antisymm}
@@ -9,11 +9,7 @@ use Rattle.stacks.specs.Count.{sum, greatest}
 
 -- What holds at a and at every other number holds at every number.
 pub everywhere : (P : ℕ → Type 0) (a : ℕ) → P a → ((i : ℕ) → i ≢ a → P i) → (i : ℕ) → P i
-everywhere P a here elsewhere i = go (ℕ-discrete i a)
-  where
-    go : Dec (i ≡ a) → P i
-    go (yes e) = subst⁻¹ P e here
-    go (no n) = elsewhere i n
+everywhere P a here elsewhere i = elim (ℕ-discrete i a) [ yes e ↦ subst⁻¹ P e here | no n ↦ elsewhere i n ]
 
 -- Sums keep the order.
 pub sum-le : (n : ℕ) (f g : ℕ → ℕ) → ((i : ℕ) → i < n → f i ≤ g i) → sum n f ≤ sum n g
@@ -36,11 +32,10 @@ sum-add (suc n) f g = omega (arith, sum-add n f g)
 pub sum-le-outside : (n : ℕ) (f g : ℕ → ℕ) (a : ℕ) → a < n → ((i : ℕ) → i < n → i ≢ a → f i ≤ g i) → g a + sum n f ≤ sum n g + f a
 unfolding sum
 sum-le-outside zero f g a p h = omega arith
-sum-le-outside (suc n) f g a p h = go (ℕ-discrete n a) (λ q. sum-le-outside n f g a q (λ i r. h i (omega arith)))
-  where
-    go : Dec (n ≡ a) → (a < n → g a + sum n f ≤ sum n g + f a) → g a + (sum n f + f n) ≤ sum n g + g n + f a
-    go (yes e) ih = omega (arith, ap f e, ap g e, sum-le n f g (λ i r. h i (omega arith) (omega arith)))
-    go (no e) ih = omega (arith, ih (omega arith), h n (omega arith) e)
+sum-le-outside (suc n) f g a p h = elim (ℕ-discrete n a) [
+  | yes e ↦ omega (arith, ap f e, ap g e, sum-le n f g (λ i r. h i (omega arith) (omega arith)))
+  | no e ↦ omega (arith, sum-le-outside n f g a (omega arith) (λ i r. h i (omega arith)), h n (omega arith) e)
+]
 
 -- The same outside two places.
 pub sum-le-outside-two : (n : ℕ) (f g : ℕ → ℕ) (a b : ℕ) → a ≢ b → a < n → b < n → ((i : ℕ) → i < n → i ≢ a → i ≢ b → f i ≤ g i)
@@ -99,29 +94,11 @@ look (suc n) a f g = go (look n a f g) (ℕ-discrete n a) (decLt (f n) (g n))
 
 -- If the sum of f without a is less than that of g, there is such a place.
 pub some-other-less : (n a : ℕ) (f g : ℕ → ℕ) → a < n → sum n f + g a < sum n g + f a → Less n a f g
-some-other-less n a f g p h = go (look n a f g)
-  where
-    go : Look n a f g → Less n a f g
-    go (found r) = r
-    go (nowhere l) = absurd (omega (arith, sum-le-outside n g f a p l))
+some-other-less n a f g p h = elim (look n a f g) [ found r ↦ r | nowhere l ↦ absurd (omega (arith, sum-le-outside n g f a p l)) ]
 
 -- The same with no place left out.
 pub some-less : (n : ℕ) (f g : ℕ → ℕ) → sum n f < sum n g → Less n n f g
-some-less n f g h = go (look n n f g)
-  where
-    go : Look n n f g → Less n n f g
-    go (found r) = r
-    go (nowhere l) = absurd (omega (arith, sum-le n g f (λ i p. l i p (omega arith))))
-
--- Nothing adds up to nothing.
-sum-zero : (n : ℕ) → sum n (λ i. 0) ≡ 0
-unfolding sum
-sum-zero zero = refl
-sum-zero (suc n) = omega (arith, sum-zero n)
-
--- A sum that is not 0 has a term that is not 0.
-pub some-positive : (n : ℕ) (f : ℕ → ℕ) → 0 < sum n f → Less n n (λ i. 0) f
-some-positive n f h = some-less n (λ i. 0) f (omega (arith, sum-zero n))
+some-less n f g h = elim (look n n f g) [ found r ↦ r | nowhere l ↦ absurd (omega (arith, sum-le n g f (λ i p. l i p (omega arith)))) ]
 
 -- a sum, and the greatest, of equal terms
 pub sum-same : (m k : ℕ) → sum m (λ i. k) ≡ m * k
@@ -135,15 +112,16 @@ greatest-same zero k h = absurd (omega arith)
 greatest-same (suc zero) k h = omega arith
 greatest-same (suc (suc m)) k h = omega (arith, greatest-same (suc m) k (omega arith))
 
+-- A sum that is not 0 has a term that is not 0.
+pub some-positive : (n : ℕ) (f : ℕ → ℕ) → 0 < sum n f → Less n n (λ i. 0) f
+some-positive n f h = some-less n (λ i. 0) f (omega (arith, sum-same n 0))
+
 -- no term is above the greatest, and the greatest is not above a bound of all terms
 pub term-le-greatest : (m : ℕ) (f : ℕ → ℕ) (i : ℕ) → i < m → f i ≤ greatest m f
 unfolding greatest
 term-le-greatest zero f i h = absurd (omega arith)
 term-le-greatest (suc m) f i h =
-    elim (ℕ-discrete i m) [
-      | yes e ↦ omega (arith, ap f e)
-      | no n ↦ omega (arith, term-le-greatest m f i (omega arith))
-    ]
+    elim (ℕ-discrete i m) [ yes e ↦ omega (arith, ap f e) | no n ↦ omega (arith, term-le-greatest m f i (omega arith)) ]
 
 pub greatest-le : (m : ℕ) (f : ℕ → ℕ) (k : ℕ) → ((i : ℕ) → f i ≤ k) → greatest m f ≤ k
 unfolding greatest

@@ -13,11 +13,6 @@ use Rattle.stacks.specs.TwoStackReading.{twoStackReading}
 use Rattle.stacks.proofs.Sums.{everywhere}
 use Rattle.stacks.proofs.Stores.{put-two, put-two-first, put-two-second, put-two-other}
 
--- With one shaft only the empty list is legal.
-pub one-shaft-empty : {d : ℕ → ℕ} {S T : Stacks} {ls : List Lift} → Run 1 d S ls T → ls ≡ []
-one-shaft-empty done = refl
-one-shaft-empty (step s r) = absurd (omega arith)
-
 -- With one shaft nothing moves.
 pub one-shaft : {d : ℕ → ℕ} {S T : Stacks} {ls : List Lift} → Run 1 d S ls T → S ≡ T
 one-shaft done = refl
@@ -43,10 +38,7 @@ same-parts : (u v r s : List ℕ) → length u ≡ length r → reverseAux u v �
 same-parts [] v [] s n e = (refl, e)
 same-parts [] v (y ∷ r) s n e = absurd (omega arith)
 same-parts (x ∷ u) v [] s n e = absurd (omega arith)
-same-parts (x ∷ u) v (y ∷ r) s n e = consed (same-parts u (x ∷ v) r (y ∷ s) (omega arith) e)
-  where
-    consed : (u ≡ r) × (x ∷ v ≡ y ∷ s) → (x ∷ u ≡ y ∷ r) × (v ≡ s)
-    consed p = (cc, cc)
+same-parts (x ∷ u) v (y ∷ r) s n e = let p = same-parts u (x ∷ v) r (y ∷ s) (omega arith) e in (cc (p .0, p .1), cc (p .1))
 
 -- A shift leads to any stacks in which the cassettes xs, the top of a, stand turned over on b.
 shift-leads : {m a b : ℕ} {d : ℕ → ℕ} {S T : Stacks} → (a ≡ b → ⊥) → a < m → b < m → (xs : List ℕ) → S a ≡ xs ++ T a → T b ≡ reverseAux xs (S b)
@@ -100,16 +92,15 @@ module _ {d : ℕ → ℕ} {S T : Stacks} (k : ℕ) (within : Within 2 d T) (out
 pub two-reached : {d : ℕ → ℕ} {S T : Stacks} → Within 2 d T → ((i : ℕ) → 2 ≤ i → S i ≡ T i) → twoStackReading S ≡ twoStackReading T
     → Reached 2 d S T (length (S 0) + length (S 1))
 unfolding twoStackReading
-two-reached {d} {S} {T} within outside same = go (decLe (length (T 0)) (length (S 0)))
-  where
-    go : Dec (length (T 0) ≤ length (S 0)) → Reached 2 d S T (length (S 0) + length (S 1))
-    go (yes h) = record {
-      lifts = _;
-      runs = two-shift (length (S 0) - length (T 0)) within outside same (omega arith);
-      short = rw length-replicate (omega arith);
-    }
-    go (no h) = record {
-      lifts = _;
-      runs = two-unshift (length (T 0) - length (S 0)) within outside same (omega arith);
-      short = rw length-replicate (omega (arith, simp length-reverseAux at (ap length same)));
-    }
+two-reached {d} {S} {T} within outside same = elim (decLe (length (T 0)) (length (S 0))) [
+  | yes h ↦ record {
+    lifts = _;
+    runs = two-shift (length (S 0) - length (T 0)) within outside same (omega arith);
+    short = rw length-replicate (omega arith);
+  }
+  | no h ↦ record {
+    lifts = _;
+    runs = two-unshift (length (T 0) - length (S 0)) within outside same (omega arith);
+    short = rw length-replicate (omega (arith, simp length-reverseAux at (ap length same)));
+  }
+]
