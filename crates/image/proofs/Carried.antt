@@ -16,7 +16,7 @@ use Rattle.image.specs.Image.{imageLength, imageOf}
 use Rattle.image.specs.Numbers.{readNumber, writeNumber}
 use Rattle.image.specs.Promises.{ReadIs}
 use Rattle.image.specs.Reading.{Reading, readImage}
-use Rattle.image.specs.Writing.{writeRefusal, bytesAfter, countAfter, WriteIs}
+use Rattle.image.specs.Writing.{writeRefusal, WriteIs}
 use Rattle.image.proofs.Nexts.{accepted}
 use Rattle.image.proofs.Refused.{not-refused}
 use Rattle.image.proofs.RoundTrip.{written-read, read-written}
@@ -31,10 +31,9 @@ module _ (s : Store) (out next : List ℕ) (w : Written) (p : WriteIs s out next
   image-first : writeRefusal s (length out) ≡ 0 → take (w .count) next ≡ imageOf s
   unfolding imageOf
   image-first e =
-      let n : w .count ≡ imageLength s = p .count ∙ ap (λ (k : ℕ). countAfter k s) e in
-      let b : next ≡ imageOf s ++ drop (imageLength s) out = p .bytes ∙ ap (λ (k : ℕ). bytesAfter k s out) e in
-      ap (λ (l : List ℕ). take (w .count) l) b
-      ∙ take-at (imageOf s) (drop (imageLength s) out) (w .count) (length-bytes (imageLength s) _ ∙ sym n)
+      let n : w .count ≡ imageLength s = rw e at (p .count) in
+      let b : next ≡ imageOf s ++ drop (imageLength s) out = rw e at (p .bytes) in
+      rw (b, n) (take-at (imageOf s) (drop (imageLength s) out) (imageLength s) (length-bytes (imageLength s) _))
 
   -- a store that was written is read as that store
   pub written-then-read : (r : Read) → writeNumber (w .answer) ≡ 0 → ReadIs (readImage (take (w .count) next)) r

@@ -1,11 +1,11 @@
 -- The first p places of an array, with zeros after them: how a store looks while an image is read or written.
-use mathlib.Core.List.{List, [], _∷_, _++_, append-nil}
+use mathlib.Core.List.{List, _++_, append-nil}
 use mathlib.Core.Path.{_≡_, refl, sym, ap, _∙_}
 use Prim.Native.Nat.{ℕ, zero, suc, _+_, _-_, _≤_, _<_}
-use native.Mathlib.Nat.{add-suc, add-zero}
+use native.Mathlib.Decide.{decLt}
 use native.Mathlib.Omega.{arith}
 use lib.ListN.{length, getD, take, set, replicate, length-set, List·getD-append}
-use lib.Seq.{take-suc, take-all, take-take, take-append-le, take-set-le, length-take-le, set-at, append-snoc, getD-append-add, getD-take, getD-set-same}
+use lib.Seq.{take-suc, take-all, take-take, take-append-le, take-set-le, length-take-le, set-at, append-snoc, getD-append-add, getD-take, getD-set-same, set-getD}
 use Rattle.lifts.specs.Lifting.{mostShafts, slotCount, shown}
 use Rattle.store.specs.declared.Store.{Store}
 use Rattle.shafts.specs.Rows.{rowsUp}
@@ -33,30 +33,21 @@ module _ (n : ℕ) (l : List ℕ) (sized : length l ≡ n) where
   pub cut-set : (p : ℕ) → p < n → set (cutAt n p l) p (getD l p 0) ≡ cutAt n (suc p) l
   cut-set p h =
       let e : n - p ≡ suc (n - suc p) = omega arith in
-      ap (λ (k : ℕ). set (take p l ++ replicate k 0) p (getD l p 0)) e
-      ∙ set-at (take p l) 0 (replicate (n - suc p) 0) (getD l p 0) p (length-take-le p l (omega arith))
-      ∙ sym (append-snoc (take p l) (getD l p 0) (replicate (n - suc p) 0))
-      ∙ ap (λ (k : List ℕ). k ++ replicate (n - suc p) 0) (sym (take-suc l p 0 (omega arith)))
-
-  cut-one : (p : ℕ) → p < n → getD l p 0 ≡ 0 → cutAt n p l ≡ cutAt n (suc p) l
-  cut-one p h z =
-      let e : n - p ≡ suc (n - suc p) = omega arith in
-      ap (λ (k : ℕ). take p l ++ replicate k 0) e
-      ∙ sym (append-snoc (take p l) 0 (replicate (n - suc p) 0))
-      ∙ ap (λ (k : List ℕ). k ++ replicate (n - suc p) 0) (ap (λ (v : ℕ). take p l ++ (v ∷ [])) (sym z) ∙ sym (take-suc l p 0 (omega arith)))
+      rw (e, take-suc l p 0 (omega arith), append-snoc) (set-at (take p l) 0 (replicate (n - suc p) 0) (getD l p 0) p (length-take-le p l (omega arith)))
 
   -- the cut may move over zeros
-  pub cut-over : (p d : ℕ) → p + d ≤ n → ((i : ℕ) → p ≤ i → i < p + d → getD l i 0 ≡ 0) → cutAt n p l ≡ cutAt n (p + d) l
-  cut-over p zero h z = ap (λ (k : ℕ). cutAt n k l) (sym (add-zero p))
-  cut-over p (suc d) h z =
-      cut-over p d (omega arith) (λ i a b. z i a (omega arith))
-      ∙ cut-one (p + d) (omega arith) (z (p + d) (omega arith) (omega arith))
-      ∙ ap (λ (k : ℕ). cutAt n k l) (sym (add-suc p d))
+  pub cut-to : (p q : ℕ) → p ≤ q → q ≤ n → ((i : ℕ) → p ≤ i → i < q → getD l i 0 ≡ 0) → cutAt n p l ≡ cutAt n q l
+  cut-to p zero h k z = let e : p ≡ 0 = omega arith in rw e
+  cut-to p (suc q) h k z =
+      elim (decLt q p) [
+        | yes g ↦ (let e : p ≡ suc q = omega arith in rw e)
+        | no g ↦
+            cut-to p q (omega arith) (omega arith) (λ i a b. z i a (omega arith))
+            ∙ cc (set-getD (cutAt n q l) q 0, cut-beyond q q (omega arith) (omega arith), z q (omega arith) (omega arith), cut-set q k)
+      ]
 
   pub cut-all : cutAt n n l ≡ l
-  cut-all =
-      let e : n - n ≡ 0 = omega arith in
-      ap (λ (k : ℕ). take n l ++ replicate k 0) e ∙ append-nil (take n l) ∙ take-all n l (omega arith)
+  cut-all = let e : n - n ≡ 0 = omega arith in rw e (append-nil (take n l) ∙ take-all n l (omega arith))
 
   pub cut-cut : (p q : ℕ) → p ≤ q → q ≤ n → cutAt n p (cutAt n q l) ≡ cutAt n p l
   cut-cut p q h k =
@@ -70,16 +61,14 @@ module _ (n : ℕ) (l : List ℕ) (sized : length l ≡ n) where
 -- nothing stands from p on: it stays so after a store at p, for p + 1
 pub low-set : (n : ℕ) (l : List ℕ) (p v : ℕ) → length l ≡ n → p < n → cutAt n p l ≡ l → cutAt n (suc p) (set l p v) ≡ set l p v
 low-set n l p v sized h low =
-    let s : length (set l p v) ≡ n = length-set l p v ∙ sized in
-    sym (cut-set n (set l p v) s p h)
-    ∙ ap (λ (x : ℕ). set (cutAt n p (set l p v)) p x) (getD-set-same l p v 0 (omega arith))
-    ∙ ap (λ (m : List ℕ). set m p v) (cut-before n l sized p p v (omega arith) ∙ low)
+    let e = cut-set n (set l p v) (length-set l p v ∙ sized) p h in
+    cc (e, getD-set-same l p v 0 (omega arith), cut-before n l sized p p v (omega arith), low)
 
 pub low-zero : (n : ℕ) (l : List ℕ) (p i : ℕ) → length l ≡ n → p ≤ n → cutAt n p l ≡ l → p ≤ i → getD l i 0 ≡ 0
 low-zero n l p i sized h low k = ap (λ (m : List ℕ). getD m i 0) (sym low) ∙ cut-beyond n l sized p i h k
 
-pub low-over : (n : ℕ) (l : List ℕ) (p d : ℕ) → length l ≡ n → p + d ≤ n → cutAt n p l ≡ l → cutAt n (p + d) l ≡ l
-low-over n l p d sized h low = sym (cut-over n l sized p d h (λ i a b. low-zero n l p i sized (omega arith) low a)) ∙ low
+pub low-to : (n : ℕ) (l : List ℕ) (p q : ℕ) → length l ≡ n → p ≤ q → q ≤ n → cutAt n p l ≡ l → cutAt n q l ≡ l
+low-to n l p q sized h k low = sym (cut-to n l sized p q h k (λ i a b. low-zero n l p i sized (omega arith) low a)) ∙ low
 
 -- rows of a shaft, read upward, go by their slots
 pub rows-agree : (a b : List ℕ) (x k : ℕ) → ((j : ℕ) → j < k → shown a x (suc j) ≡ shown b x (suc j)) → rowsUp a x k ≡ rowsUp b x k

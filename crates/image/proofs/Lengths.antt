@@ -1,6 +1,6 @@
 -- How long an image is: 12 bits, 5 for each shaft and 8 for each cassette; "The longest image has 267 bytes." (document 01, "The image").
 use mathlib.Core.List.{List}
-use mathlib.Core.Path.{_≡_, refl, ap, _∙_}
+use mathlib.Core.Path.{_≡_, refl, _∙_}
 use Prim.Native.Nat.{ℕ, zero, suc, _+_, _*_, _/_, _≤_, _<_}
 use native.Mathlib.Decide.{decLt}
 use native.Mathlib.Nat.{mul-suc, not-suc-le-zero}
@@ -32,9 +32,7 @@ module _ (heights slots : List ℕ) where
 
   pub length-more : (x : ℕ) → length (columnsBits heights slots (suc x)) ≡ length (columnsBits heights slots x) + (heightWidth + cassetteWidth * heightIn heights x)
   unfolding columnsBits
-  length-more x =
-      length-append (columnsBits heights slots x) (columnBits heights slots x)
-      ∙ ap (λ (n : ℕ). length (columnsBits heights slots x) + n) (length-shaft x)
+  length-more x = rw (length-append, length-shaft x)
 
   -- the bits of a shaft below m are among those of all
   pub shafts-within : (x m : ℕ) → x < m → length (columnsBits heights slots x) + length (columnBits heights slots x) ≤ length (columnsBits heights slots m)
@@ -62,4 +60,4 @@ longest s e = let p = accepted-sound s e in omega (arith, length-image s, p .few
 
 pub image-length : (s : Store) → imageLength s ≡ (12 + length (shaftsBits s (s .m)) + 7) / 8
 unfolding imageLength imageBits
-image-length s = ap (λ (n : ℕ). (n + 7) / 8) (length-append (headBits s) (shaftsBits s (s .m)) ∙ ap (λ (n : ℕ). n + length (shaftsBits s (s .m))) (length-head s))
+image-length s = rw (length-append, length-head s)

@@ -15,9 +15,7 @@ use Rattle.store.specs.declared.Store.{Store}
 use Rattle.image.specs.Reading.{Reading, unless, fromField, next}
 
 pub next-reads : (w v : ℕ) (r : List Bool) (c : ℕ → List Bool → Reading) → v < 2 ^ w → next w (bits w v ++ r) c ≡ c v r
-next-reads w v r c h =
-    ap (λ (f : Field). fromField f (λ n. c n (drop w (bits w v ++ r)))) (field-first w v r h)
-    ∙ ap (c v) (drop-at (bits w v) r w (length-bits w v))
+next-reads w v r c h = rw (field-first w v r h, drop-at (bits w v) r w (length-bits w v))
 
 abbrev pub accepted : Store → Reading
 accepted s = record { store = s; number = 0 }

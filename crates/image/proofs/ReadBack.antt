@@ -2,26 +2,25 @@
 use borrow.Author.Tests.{le-ltb}
 use mathlib.Core.Bool.{Bool}
 use mathlib.Core.List.{List, [], _∷_, _++_, append-nil, append-assoc}
-use mathlib.Core.Path.{_≡_, refl, sym, ap, ap₂, _∙_}
+use mathlib.Core.Path.{_≡_, refl, ap, _∙_}
 use Prim.Native.Nat.{ℕ, zero, suc, _+_, _-_, _*_, _^_, _≤_, _<_}
 use native.Mathlib.Nat.{add-suc, add-zero, mul-suc, lt-of-lt-of-le}
 use native.Mathlib.Omega.{arith}
-use lib.ListN.{getD}
 use Rattle.bits.specs.Fields.{bits, packed}
 use Rattle.bits.proofs.Widths.{packed-append}
 use Rattle.marks.specs.Cassettes.{numbers, cassetteFault}
 use Rattle.marks.proofs.Faulted.{first-none}
 use Rattle.lifts.specs.Lifting.{mostShafts, mostRows, slotCount, shown}
 use Rattle.store.specs.declared.Store.{Store}
-use Rattle.store.specs.Slots.{depth, height, slot, upward, cassettesBelow}
+use Rattle.store.specs.Slots.{held, depth, height, slot, upward, cassettesBelow}
 use Rattle.shafts.specs.Rows.{rowsUp, rowsFault}
 use Rattle.store.specs.Accept.{shaftFault, shaftsFault}
 use Rattle.store.specs.Sound.{Shaped}
 use Rattle.shafts.proofs.Walk.{row-none}
 use Rattle.store.proofs.Walk.{not-too-high}
 use Rattle.image.specs.Image.{heightWidth, cassetteWidth, columnBits, columnsBits, shaftBits, shaftsBits}
-use Rattle.image.specs.Reading.{Rest, unless, placed, raised, takeCassette, readRow, readRows, readColumn, readShaft, readShafts}
-use Rattle.image.proofs.Cut.{cutAt, cut, cut-set, cut-over}
+use Rattle.image.specs.Reading.{Rest, takeCassette, readRow, readRows, readColumn, readShaft, readShafts}
+use Rattle.image.proofs.Cut.{cutAt, cut, cut-set, cut-to}
 use Rattle.image.proofs.Nexts.{next-reads}
 
 module _ (s : Store) (shaped : Shaped s) where
@@ -33,28 +32,19 @@ module _ (s : Store) (shaped : Shaped s) where
     row-back k b r c h f =
         let v = slot s x (suc k) in
         let t = cut s (suc x) (16 * x + k) in
-        let e : placed t x k v ≡ cut s (suc x) (16 * x + suc k) =
-        ap (λ (l : List ℕ). record { m = s .m; h = s .h; heights = cutAt mostShafts (suc x) (s .heights); slots = l })
-        (cut-set slotCount (s .slots) (shaped .slots-sized) (16 * x + k) (omega arith) ∙ ap (λ (p : ℕ). cutAt slotCount p (s .slots)) (sym (add-suc (16 * x) k))) in
-        next-reads w v r (λ u q. takeCassette x k u b t q c) (lt-of-lt-of-le (shaped .numbered (16 * x + k)) wide)
-        ∙ ap (λ (n : ℕ). unless n (c (b ++ (v ∷ [])) (placed t x k v) r)) f
-        ∙ ap (λ (u : Store). c (b ++ (v ∷ [])) u r) e
+        let e = cut-set slotCount (s .slots) (shaped .slots-sized) (16 * x + k) (omega arith) in
+        next-reads w v r (λ u q. takeCassette x k u b t q c) (lt-of-lt-of-le (shaped .numbered (16 * x + k)) wide) ∙ rw (f, add-suc, e)
 
     rows-back : (k : ℕ) (r : List Bool) (c : Rest) → k ≤ mostRows → ((j : ℕ) → j < k → cassetteFault (cassettesBelow s x ++ upward s x j) (slot s x (suc j)) ≡ 0)
         → readRows w x k (cassettesBelow s x) (cut s (suc x) (16 * x)) (packed w (upward s x k) ++ r) c
         ≡ c (cassettesBelow s x ++ upward s x k) (cut s (suc x) (16 * x + k)) r
     unfolding readRows rowsUp packed
-    rows-back zero r c h f =
-        ap₂ (λ (b : List ℕ) (p : ℕ). c b (cut s (suc x) p) r) (sym (append-nil (cassettesBelow s x))) (sym (add-zero (16 * x)))
+    rows-back zero r c h f = rw (append-nil, add-zero)
     rows-back (suc k) r c h f =
         let b = cassettesBelow s x in
-        let v = slot s x (suc k) in
-        ap (λ (l : List Bool). readRows w x (suc k) b (cut s (suc x) (16 * x)) l c)
-        (ap (λ (l : List Bool). l ++ r) (packed-append w (upward s x k) (v ∷ [])) ∙ append-assoc (packed w (upward s x k)) (packed w (v ∷ [])) r
-        ∙ ap (λ (l : List Bool). packed w (upward s x k) ++ (l ++ r)) (append-nil (bits w v)))
-        ∙ rows-back k (bits w v ++ r) (λ d t q. readRow w x k d t q c) (omega arith) (λ j p. f j (omega arith))
-        ∙ row-back k (b ++ upward s x k) r c (omega arith) (f k (omega arith))
-        ∙ ap (λ (d : List ℕ). c d (cut s (suc x) (16 * x + suc k)) r) (append-assoc b (upward s x k) (v ∷ []))
+        simp (packed-append, append-assoc, append-nil)
+        (rows-back k (bits w (slot s x (suc k)) ++ r) (λ d t q. readRow w x k d t q c) (omega arith) (λ j p. f j (omega arith))
+        ∙ row-back k (b ++ upward s x k) r c (omega arith) (f k (omega arith)) ∙ rw append-assoc)
 
   -- shaft x: its height, and its rows
   module _ (x : ℕ) (below : x < mostShafts) where
@@ -65,24 +55,18 @@ module _ (s : Store) (shaped : Shaped s) where
         let v = height s x in
         let b = cassettesBelow s x in
         let n : v ≤ mostRows = omega (arith, shaped .rows x) in
-        let e : raised (cut s x (16 * x)) x v ≡ cut s (suc x) (16 * x) =
-        ap (λ (l : List ℕ). record { m = s .m; h = s .h; heights = l; slots = cutAt slotCount (16 * x) (s .slots) })
-        (cut-set mostShafts (s .heights) (shaped .heights-sized) x below) in
-        let u : 16 * x + v + (16 - v) ≡ 16 * suc x = omega (arith, mul-suc 16 x) in
-        ap (λ (l : List Bool). readShaft x b (cut s x (16 * x)) l c) (append-assoc (bits heightWidth v) (packed cassetteWidth (upward s x v)) r)
-        ∙ next-reads heightWidth v (packed cassetteWidth (upward s x v) ++ r) (λ w q. readColumn x w b (cut s x (16 * x)) q c) (omega arith)
+        let l = packed cassetteWidth (upward s x v) ++ r in
+        rw (append-assoc (bits heightWidth v) (packed cassetteWidth (upward s x v)) r)
+        (next-reads heightWidth v l (λ w q. readColumn x w b (cut s x (16 * x)) q c) (omega arith)
         ∙ rw (le-ltb (depth s x) v h) refl
-        ∙ ap (λ (t : Store). readRows cassetteWidth x v b t (packed cassetteWidth (upward s x v) ++ r) c) e
+        ∙ ap (λ (a : List ℕ). readRows cassetteWidth x v b (held (s .m) (s .h) a (cutAt slotCount (16 * x) (s .slots))) l c)
+        (cut-set mostShafts (s .heights) (shaped .heights-sized) x below)
         ∙ rows-back cassetteWidth (omega arith) x below v r c n (λ j p. row-none b (s .slots) x j v f p)
-        ∙ ap (λ (l : List ℕ). c (b ++ upward s x v) (record { m = s .m; h = s .h; heights = cutAt mostShafts (suc x) (s .heights); slots = l }) r)
-        (cut-over slotCount (s .slots) (shaped .slots-sized) (16 * x + v) (16 - v) (omega arith)
-        (λ i p q. above i p (omega (arith, mul-suc 16 x)))
-        ∙ ap (λ (p : ℕ). cutAt slotCount p (s .slots)) u)
-      where
-        above : (i : ℕ) → 16 * x + height s x ≤ i → i < 16 * x + 16 → getD (s .slots) i 0 ≡ 0
-        above i p q =
-            let e : 16 * x + (i - 16 * x) ≡ i = omega arith in
-            ap (λ (j : ℕ). getD (s .slots) j 0) (sym e) ∙ shaped .none-above x (i - 16 * x) below (omega arith) (omega arith)
+        ∙ ap (λ (a : List ℕ). c (b ++ upward s x v) (held (s .m) (s .h) (cutAt mostShafts (suc x) (s .heights)) a) r)
+        (cut-to slotCount (s .slots) (shaped .slots-sized) (16 * x + v) (16 * suc x) (omega (arith, mul-suc 16 x)) (omega (arith, mul-suc 16 x))
+        (λ i p q.
+        let e : 16 * x + (i - 16 * x) ≡ i = omega arith in
+        rw e at (shaped .none-above x (i - 16 * x) below (omega (arith, mul-suc 16 x)) (omega arith)))))
 
   pub shafts-back : (x : ℕ) (r : List Bool) (c : Rest) → x ≤ mostShafts → shaftsFault s x ≡ 0
       → readShafts x [] (cut s 0 0) (shaftsBits s x ++ r) c ≡ c (cassettesBelow s x) (cut s x (16 * x)) r
@@ -91,6 +75,5 @@ module _ (s : Store) (shaped : Shaped s) where
   shafts-back (suc x) r c h f =
       let g = first-none (shaftsFault s x) (shaftFault s x) f in
       let p = not-too-high s x (g .1) in
-      ap (λ (l : List Bool). readShafts (suc x) [] (cut s 0 0) l c) (append-assoc (shaftsBits s x) (shaftBits s x) r)
-      ∙ shafts-back x (shaftBits s x ++ r) (λ b t q. readShaft x b t q c) (omega arith) (g .0)
-      ∙ shaft-back x (omega arith) r c (p .0) (p .1)
+      rw (append-assoc (shaftsBits s x) (shaftBits s x) r)
+      (shafts-back x (shaftBits s x ++ r) (λ b t q. readShaft x b t q c) (omega arith) (g .0) ∙ shaft-back x (omega arith) r c (p .0) (p .1))

@@ -12,50 +12,50 @@ use lib.Dec.{ltb, eqb}
 use lib.ListN.{length, getD, drop, replicate, length-append}
 use lib.Pow.{pow-pos}
 use lib.Seq.{take-all}
-use Rattle.bits.specs.Fields.{bits, field, bitsOf, bytesOf, byteCount}
+use Rattle.bits.specs.Fields.{bits, field, bitsOf, byteCount}
 use Rattle.bits.proofs.Widths.{length-bits, length-packed, field-bits, field-lt, bits-field}
 use Rattle.bits.proofs.Bytes.{padded, bytes-agree, bytes-back, padded-agrees}
 use Rattle.marks.specs.Cassettes.{given}
 use Rattle.marks.proofs.Faulted.{first-none, given-none, not-given, both-true}
 use Rattle.lifts.specs.Lifting.{mostShafts, mostRows, slotCount, shown}
 use Rattle.store.specs.declared.Store.{Store}
-use Rattle.store.specs.Slots.{depth, height, slot, cassettesBelow, cassettes, cassetteCount}
-use Rattle.store.specs.Accept.{allShown, inPlace, shaftsFault, storeFault, Accepted}
+use Rattle.store.specs.Slots.{held, height, slot, cassettesBelow, cassettes, cassetteCount}
+use Rattle.store.specs.Accept.{allShown, shaftsFault, Accepted}
 use Rattle.store.specs.Sound.{Shaped}
 use Rattle.store.proofs.Acceptance.{accepted-sound}
 use Rattle.shafts.proofs.InPlace.{depth-some, depth-most, depth-least, rows-most}
 use Rattle.store.proofs.InPlace.{shaped-in-place}
+use Rattle.store.proofs.Once.{once-walks}
 use Rattle.store.proofs.Typed.{shown-at}
+use Rattle.store.proofs.Verdicts.{no-fault}
+use Rattle.store.proofs.Walk.{shaft-none, not-too-high}
 use Rattle.image.specs.Image.{formWidth, frameWidth, headBits, shaftsBits, imageBits, imageLength, imageOf}
 use Rattle.image.specs.Reading.{Reading, emptyStore, next, padding, endFault, finish, readBody, readDepth, readSize, readForm, readImage}
-use Rattle.image.proofs.Cut.{cutAt, cut, cut-over, cut-all, low-zero}
-use Rattle.image.proofs.Nexts.{accepted, unless-accepted, next-reads, Took, took}
+use Rattle.image.proofs.Cut.{cut, cut-to, cut-all, low-zero}
+use Rattle.image.proofs.Nexts.{accepted, unless-accepted, next-reads, took}
 use Rattle.image.proofs.ReadBack.{shafts-back}
-use Rattle.image.proofs.WriteBack.{Low, Settled, shafts-read}
+use Rattle.image.proofs.WriteBack.{Low, Settled, Shafts, shafts-read}
 
 -- the cut of all shafts below m of a store that has nothing beyond is the store
 whole : (s : Store) → Shaped s → cut s (s .m) (16 * s .m) ≡ s
 unfolding shown
 whole s p =
-    let e : s .m + (mostShafts - s .m) ≡ mostShafts = omega (arith, p .shafts) in
-    let f : 16 * s .m + (slotCount - 16 * s .m) ≡ slotCount = omega (arith, p .shafts) in
-    ap₂ (λ (a l : List ℕ). record { m = s .m; h = s .h; heights = a; slots = l })
-    (cut-over mostShafts (s .heights) (p .heights-sized) (s .m) (mostShafts - s .m) (omega arith) (λ i a b. p .none-beyond i a)
-    ∙ ap (λ (n : ℕ). cutAt mostShafts n (s .heights)) e ∙ cut-all mostShafts (s .heights) (p .heights-sized))
-    (cut-over slotCount (s .slots) (p .slots-sized) (16 * s .m) (slotCount - 16 * s .m) (omega arith) (λ i a b. none i a (omega arith))
-    ∙ ap (λ (n : ℕ). cutAt slotCount n (s .slots)) f ∙ cut-all slotCount (s .slots) (p .slots-sized))
+    ap₂ (held (s .m) (s .h))
+    (cut-to mostShafts (s .heights) (p .heights-sized) (s .m) mostShafts (p .shafts) (omega arith) (λ i a b. p .none-beyond i a)
+    ∙ cut-all mostShafts (s .heights) (p .heights-sized))
+    (cut-to slotCount (s .slots) (p .slots-sized) (16 * s .m) slotCount (omega (arith, p .shafts)) (omega arith) none ∙ cut-all slotCount (s .slots) (p .slots-sized))
   where
     none : (i : ℕ) → 16 * s .m ≤ i → i < slotCount → getD (s .slots) i 0 ≡ 0
     none i a b =
         let e : 16 * (i / 16) + i % 16 ≡ i = omega arith in
         let z : height s (i / 16) ≡ 0 = p .none-beyond (i / 16) (omega arith) in
-        ap (λ (j : ℕ). getD (s .slots) j 0) (sym e) ∙ p .none-above (i / 16) (i % 16) (omega arith) (omega arith) (omega arith)
+        rw e at (p .none-above (i / 16) (i % 16) (omega arith) (omega arith) (omega arith))
 
 -- zero bits to the end of the byte are padding
 zeros-pad : (k : ℕ) → k < 8 → padding (bits k 0) ≡ true
 unfolding padding
 zeros-pad k h =
-    let z : field (bits k 0) k ≡ 0 = ap (λ (l : List Bool). field l k) (sym (append-nil (bits k 0))) ∙ field-bits k 0 [] (pow-pos k) in
+    let z : field (bits k 0) k ≡ 0 = rw append-nil at (field-bits k 0 [] (pow-pos k)) in
     simp (length-bits k 0, lt-ltb k 8 h, z)
 
 finishes : (b : List ℕ) (s : Store) (l : List Bool) → length b ≤ 255 → padding l ≡ true → finish b s l ≡ accepted s
@@ -64,13 +64,12 @@ finishes b s l h p = simp (le-ltb 255 (length b) h, p)
 
 -- a store accepted, written and read is that store
 pub written-read : (s : Store) → Accepted s → readImage (imageOf s) ≡ accepted s
-unfolding readImage readBody imageOf imageLength imageBits headBits cassettes cassetteCount storeFault
+unfolding readImage readBody imageOf imageLength imageBits headBits cassettes cassetteCount
 written-read s e =
     let p = accepted-sound s e in
     let k = byteCount (length (imageBits s)) * 8 - length (imageBits s) in
     let pad = bits k 0 in
     let shafts = shaftsBits s (s .m) in
-    let faults = first-none (given (not (inPlace s)) 12) _ e in
     let m : s .m - 1 + 1 ≡ s .m = omega (arith, p .some-shaft) in
     let h : s .h - 1 + 1 ≡ s .h = omega (arith, depth-least (s .h) 0 (p .some-row 0 (p .some-shaft))) in
     ap (λ (l : List Bool). next formWidth l readForm) (padded (imageBits s) k (omega arith) ∙ simp append-assoc)
@@ -78,7 +77,7 @@ written-read s e =
     ∙ next-reads frameWidth (s .m - 1) (bits frameWidth (s .h - 1) ++ (shafts ++ pad)) readDepth (omega (arith, p .shaped .shafts))
     ∙ next-reads frameWidth (s .h - 1) (shafts ++ pad) (λ n r. readBody (emptyStore (s .m - 1 + 1) (n + 1)) r) (omega (arith, rows-most (s .h) 0 (p .shaped .rows 0)))
     ∙ ap₂ (λ (n r : ℕ). readBody (emptyStore n r) (shafts ++ pad)) m h
-    ∙ shafts-back s (p .shaped) (s .m) pad finish (p .shaped .shafts) (first-none (shaftsFault s (s .m)) _ (faults .1) .0)
+    ∙ shafts-back s (p .shaped) (s .m) pad finish (p .shaped .shafts) (once-walks s (s .m) (p .shaped .heights) (p .no-gap) (p .once))
     ∙ finishes (cassettes s) (cut s (s .m) (16 * s .m)) pad (p .few) (zeros-pad k (omega arith))
     ∙ ap accepted (whole s (p .shaped))
 
@@ -87,36 +86,30 @@ finish-settles : (s : Store) (m : ℕ) (b : List ℕ) (t : Store) (l : List Bool
 unfolding finish
 finish-settles s m b t l low e =
     let q : t ≡ s = ap (λ (r : Reading). r .store) (unless-accepted (endFault b l) (accepted t) s e .1) in
-    record {
-      same =
-          ap₂ (λ (a k : List ℕ). record { m = t .m; h = t .h; heights = a; slots = k }) (sym (low .heights)) (sym (low .slots))
-          ∙ ap (λ (u : Store). cut u m (16 * m)) q;
-      heights-sized = subst (λ (u : Store). length (u .heights) ≡ mostShafts) q (low .heights-sized);
-      slots-sized = subst (λ (u : Store). length (u .slots) ≡ slotCount) q (low .slots-sized);
-    }
+    rw (← q) (record {
+      same = sym (ap₂ (held (t .m) (t .h)) (low .heights) (low .slots));
+      heights-sized = low .heights-sized;
+      slots-sized = low .slots-sized;
+    })
 
 -- padding is zero bits
 pads : (l : List Bool) → padding l ≡ true → (length l < 8) × (l ≡ bits (length l) 0)
 unfolding padding
 pads l e =
-    let p = both-true _ _ e in (
-      ltb-true (length l) 8 (p .0),
-      sym (take-all (length l) l (omega arith)) ∙ sym (bits-field (length l) l (omega arith)) ∙ ap (bits (length l)) (eqb-true (field l (length l)) 0 (p .1)),
-    )
+    let p = both-true _ _ e in
+    let n = length l in
+    (ltb-true n 8 (p .0), cc (take-all n l (omega arith), bits-field n l (omega arith), eqb-true (field l n) 0 (p .1)))
 
--- what was read after the size: the store s of m shafts and depth h
+-- what was read after the size: the store s of m shafts and depth h, which has no fault
 record Body (s : Store) (m h : ℕ) (l : List Bool) : Type 0 where
   shafts : s .m ≡ m
   rows : s .h ≡ h
-  left : List Bool
-  begins : l ≡ shaftsBits s (s .m) ++ left
-  pad : padding left ≡ true
-  shaped : Shaped s
-  clean : shaftsFault s (s .m) ≡ 0
-  few : cassetteCount s ≤ 255
+  read : Shafts s (emptyStore m h) m l finish
+  pad : padding (read .left) ≡ true
+  sound : Accepted s
 
 module _ (s : Store) (m : ℕ) (few : m ≤ mostShafts) (same : s .m ≡ m) (low : Low m s)
-    (above : (y k : ℕ) → y < m → height s y ≤ k → k < mostRows → slot s y (suc k) ≡ 0) (high : (y : ℕ) → y < m → height s y ≤ depth s y) where
+    (above : (y k : ℕ) → y < m → height s y ≤ k → k < mostRows → slot s y (suc k) ≡ 0) (clean : shaftsFault s m ≡ 0) where
   beyond : (x : ℕ) → m ≤ x → height s x ≡ 0
   beyond x h = low-zero mostShafts (s .heights) m x (low .heights-sized) few (low .heights) h
 
@@ -128,7 +121,7 @@ module _ (s : Store) (m : ℕ) (few : m ≤ mostShafts) (same : s .m ≡ m) (low
     numbered = low .numbered;
     shafts = omega arith;
     rows = low .rows;
-    heights = λ x. elim (decLt x m) [ yes h ↦ high x h | no h ↦ omega (arith, beyond x (omega arith)) ];
+    heights = λ x. elim (decLt x m) [ yes h ↦ not-too-high s x (shaft-none s x m clean h) .0 | no h ↦ omega (arith, beyond x (omega arith)) ];
     none-beyond = λ x h. beyond x (omega arith);
     none-above = λ x k a b h. elim (decLt x m) [
       | yes g ↦ above x k g h b
@@ -136,9 +129,10 @@ module _ (s : Store) (m : ℕ) (few : m ≤ mostShafts) (same : s .m ≡ m) (low
     ];
   }
 
-body-read : (s : Store) (m h : ℕ) (l : List Bool) → m ≤ mostShafts → h ≤ mostRows → readBody (emptyStore m h) l ≡ accepted s → Body s m h l
+body-read : (s : Store) (m h : ℕ) (l : List Bool) → 0 < m → m ≤ mostShafts → 0 < h → h ≤ mostRows → readBody (emptyStore m h) l ≡ accepted s
+    → Body s m h l
 unfolding readBody finish cassettes cassetteCount allShown
-body-read s m h l few rows e =
+body-read s m h l a few b rows e =
     let low : Low 0 (emptyStore m h) = record {
       heights-sized = refl;
       slots-sized = refl;
@@ -151,32 +145,26 @@ body-read s m h l few rows e =
     let f = unless-accepted (endFault (cassettesBelow s m) (p .left)) (accepted (cut s m (16 * m))) s (p .after) in
     let g = first-none (given (ltb 255 (length (cassettesBelow s m))) 6) _ (f .0) in
     let all = subst (Low m) (ap (λ (r : Reading). r .store) (f .1)) (p .low) in
-    let is = sym (p .same-shafts) in
+    let is : s .m ≡ m = ap (λ (u : Store). u .m) (sym (p .start)) in
+    let deep : s .h ≡ h = ap (λ (u : Store). u .h) (sym (p .start)) in
+    let room = ltb-false 255 (length (cassettesBelow s m)) (given-none _ 5 (g .0)) in
     record {
       shafts = is;
-      rows = sym (p .same-rows);
-      left = p .left;
-      begins = subst (λ (n : ℕ). l ≡ shaftsBits s n ++ p .left) (sym is) (p .begins);
+      rows = deep;
+      read = p;
       pad = not-given (padding (p .left)) 6 (g .1);
-      shaped = low-shaped s m few is all (p .above) (p .high);
-      clean = subst (λ (n : ℕ). shaftsFault s n ≡ 0) (sym is) (p .clean);
-      few = subst (λ (n : ℕ). length (cassettesBelow s n) ≤ 255) (sym is) (ltb-false 255 (length (cassettesBelow s m)) (given-none _ 5 (g .0)));
+      sound = no-fault s (shaped-in-place s (low-shaped s m few is all (p .above) (p .clean)) (omega arith) (λ x i. depth-some (s .h) x (omega arith)))
+          (ap (shaftsFault s) is ∙ p .clean) (omega (arith, room, ap (λ (n : ℕ). length (cassettesBelow s n)) is));
     }
-
--- a store whose parts were read has no fault
-body-accepted : (s : Store) (m h : ℕ) (l : List Bool) → 0 < m → 0 < h → Body s m h l → Accepted s
-unfolding storeFault
-body-accepted s m h l a b p =
-    simp (shaped-in-place s (p .shaped) (omega (arith, p .shafts)) (λ x i. depth-some (s .h) x (omega (arith, p .rows))), p .clean, le-ltb 255 (cassetteCount s) (p .few))
 
 -- the fields before the shafts
 head-begins : (s : Store) (m h : ℕ) (l k r q left : List Bool) → s .m ≡ m + 1 → s .h ≡ h + 1 → l ≡ bits formWidth 0 ++ k → k ≡ bits frameWidth m ++ r → r ≡ bits frameWidth h ++ q
-    → q ≡ shaftsBits s (s .m) ++ left → l ≡ imageBits s ++ left
+    → q ≡ shaftsBits s (m + 1) ++ left → l ≡ imageBits s ++ left
 unfolding imageBits headBits
 head-begins s m h l k r q left em eh el ek er eq =
     let fm : m ≡ s .m - 1 = omega arith in
     let fh : h ≡ s .h - 1 = omega arith in
-    rw (el, ek, er, eq, fm, fh) (simp append-assoc)
+    rw (el, ek, er, eq, ← em, fm, fh) (simp append-assoc)
 
 -- bytes that begin with an image, and end in padding, are that image
 image-bytes : (s : Store) (bytes : List ℕ) (left : List Bool) → ((i : ℕ) → getD bytes i 0 < 256) → bitsOf bytes ≡ imageBits s ++ left → padding left ≡ true → imageOf s ≡ bytes
@@ -184,39 +172,28 @@ unfolding imageOf imageLength bitsOf
 image-bytes s bytes left small e p =
     let q = pads left p in
     let n = length bytes in
-    let f : length (imageBits s) + length left ≡ n * 8 = sym (length-append (imageBits s) left) ∙ ap length (sym e) ∙ length-packed 8 bytes in
-    let g : byteCount (length (imageBits s)) ≡ n = omega arith in
-    ap (λ (k : ℕ). bytesOf k (imageBits s)) g
-    ∙ bytes-agree n (imageBits s) (imageBits s ++ bits (length left) 0) (λ i. sym (padded-agrees (imageBits s) (length left) i))
-    ∙ ap (λ (l : List Bool). bytesOf n (imageBits s ++ l)) (sym (q .1))
-    ∙ ap (bytesOf n) (sym e)
-    ∙ bytes-back bytes small
+    let g : byteCount (length (imageBits s)) ≡ n = omega (arith, length-append (imageBits s) left, ap length e, length-packed 8 bytes) in
+    let f = bytes-agree n (imageBits s) (imageBits s ++ bits (length left) 0) (λ i. sym (padded-agrees (imageBits s) (length left) i)) in
+    cc (g, f, q .1, e, bytes-back bytes small)
 
 -- an accepted image gives a store that is accepted, and that store is written as the same bytes
 pub read-written : (bytes : List ℕ) (s : Store) → ((i : ℕ) → getD bytes i 0 < 256) → readImage bytes ≡ accepted s → Accepted s × (imageOf s ≡ bytes)
 unfolding readImage
-read-written bytes s small e = form (took formWidth (bitsOf bytes) readForm s e)
-  where
-    rest : (f : Took formWidth (bitsOf bytes) readForm s) (g : Took frameWidth (drop formWidth (bitsOf bytes)) readDepth s)
-        → Took frameWidth (drop frameWidth (drop formWidth (bitsOf bytes))) (λ h r. readBody (emptyStore (g .v + 1) (h + 1)) r) s → f .v ≡ 0 → Accepted s × (imageOf s ≡ bytes)
-    rest f g h z =
-        let m : g .v < 16 = rw (g .is .value) (field-lt _ frameWidth) in
-        let d : h .v < 16 = rw (h .is .value) (field-lt _ frameWidth) in
-        let b = body-read s (g .v + 1) (h .v + 1) _ (omega arith) (omega arith) (h .after) in (
-          body-accepted s (g .v + 1) (h .v + 1) _ (omega arith) (omega arith) b,
-          image-bytes s bytes (b .left) small
-              (head-begins s (g .v) (h .v) _ _ _ _ (b .left) (b .shafts) (b .rows)
-              (f .is .begins ∙ ap (λ (k : ℕ). bits formWidth k ++ drop formWidth (bitsOf bytes)) z) (g .is .begins) (h .is .begins) (b .begins))
-              (b .pad),
-        )
-
-    size : (f : Took formWidth (bitsOf bytes) readForm s) → Took frameWidth (drop formWidth (bitsOf bytes)) readDepth s → f .v ≡ 0 → Accepted s × (imageOf s ≡ bytes)
-    size f g z = rest f g (took frameWidth (drop frameWidth (drop formWidth (bitsOf bytes))) _ s (g .after)) z
-
-    form : Took formWidth (bitsOf bytes) readForm s → Accepted s × (imageOf s ≡ bytes)
-    form f =
-        let u = unless-accepted (given (not (eqb (f .v) 0)) 1) (readSize (drop formWidth (bitsOf bytes))) s (f .after) in
-        size f (took frameWidth (drop formWidth (bitsOf bytes)) readDepth s (u .1)) (eqb-true (f .v) 0 (not-given (eqb (f .v) 0) 0 (u .0)))
+read-written bytes s small e =
+    let l = drop formWidth (bitsOf bytes) in
+    let f = took formWidth (bitsOf bytes) readForm s e in
+    let u = unless-accepted (given (not (eqb (f .v) 0)) 1) (readSize l) s (f .after) in
+    let z : f .v ≡ 0 = eqb-true (f .v) 0 (not-given (eqb (f .v) 0) 0 (u .0)) in
+    let g = took frameWidth l readDepth s (u .1) in
+    let h = took frameWidth (drop frameWidth l) (λ h r. readBody (emptyStore (g .v + 1) (h + 1)) r) s (g .after) in
+    let m : g .v < 16 = rw (g .is .value) (field-lt _ frameWidth) in
+    let d : h .v < 16 = rw (h .is .value) (field-lt _ frameWidth) in
+    let b = body-read s (g .v + 1) (h .v + 1) _ (omega arith) (omega arith) (omega arith) (omega arith) (h .after) in (
+      b .sound,
+      image-bytes s bytes (b .read .left) small
+          (head-begins s (g .v) (h .v) _ _ _ _ (b .read .left) (b .shafts) (b .rows) (rw z at (f .is .begins)) (g .is .begins) (h .is .begins) (b .read .begins))
+          (b .pad),
+    )
 
 -- no two images stand for one store
 pub one-image : (a b : List ℕ) (s : Store) → ((i : ℕ) → getD a i 0 < 256) → ((i : ℕ) → getD b i 0 < 256) → readImage a ≡ accepted s → readImage b ≡ accepted s → a ≡ b

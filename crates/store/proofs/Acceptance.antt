@@ -1,9 +1,8 @@
 -- A store is accepted exactly if it is sound.
-use borrow.Author.Tests.{ltb-false, le-ltb}
+use borrow.Author.Tests.{ltb-false}
 use mathlib.Core.Bool.{true, not}
 use mathlib.Core.Path.{_≡_, refl}
 use Prim.Native.Nat.{ℕ, _≤_, _<_}
-use native.Mathlib.Decide.{decLt}
 use native.Mathlib.Omega.{arith}
 use Rattle.marks.specs.Cassettes.{given}
 use Rattle.marks.specs.Marking.{noMarks, withMarks, markCount, Marked}
@@ -16,6 +15,8 @@ use Rattle.shafts.specs.Rows.{rowsFault}
 use Rattle.store.specs.Sound.{Shaped, Sound}
 use Rattle.store.proofs.InPlace.{shafts-in-range, rows-in-range, in-place-shaped, shaped-in-place}
 use Rattle.store.proofs.Once.{walked-once, once-walks, cassettes-below}
+use Rattle.store.proofs.Verdicts.{no-fault}
+use Rattle.store.proofs.Views.{holds-below}
 use Rattle.store.proofs.Walk.{shaft-none, not-too-high}
 use Rattle.shafts.proofs.Walk.{row-none}
 
@@ -36,21 +37,13 @@ module _ (s : Store) where
     pub accepted-shaped : Shaped s
     accepted-shaped = in-place-shaped s (none-met .0) (λ x h. shaft-taken x h .0)
 
-    -- a shaft that holds something is below m
-    below : (x : ℕ) → 0 < height s x → x < s .m
-    below x h =
-        elim (decLt x (s .m)) [
-          | yes i ↦ i
-          | no i ↦ absurd (omega (arith, accepted-shaped .none-beyond x (omega arith)))
-        ]
-
     pub accepted-sound : Sound s
     unfolding cassettes
     accepted-sound = record {
       shaped = accepted-shaped;
       some-shaft = shafts-in-range s (none-met .0) .0;
       some-row = λ x i. rows-in-range s (none-met .0) x .0;
-      no-gap = λ x k h. taken-cassette _ _ (row-none (cassettesBelow s x) (s .slots) x k (height s x) (shaft-taken x (below x (omega arith)) .1) h) .0;
+      no-gap = λ x k h. taken-cassette _ _ (row-none _ (s .slots) x k _ (shaft-taken x (holds-below s x accepted-shaped (omega arith)) .1) h) .0;
       once = walked-once s (s .m) (none-met .1);
       few = none-met .2;
     }
@@ -65,10 +58,6 @@ module _ (s : Store) where
     accepted-count = marks-counted _ (cassettes s) accepted-marked
 
   pub sound-accepted : Sound s → Accepted s
-  unfolding storeFault cassettes
+  unfolding cassettes
   sound-accepted p =
-      simp (
-        shaped-in-place s (p .shaped) (p .some-shaft) (p .some-row),
-        once-walks s (s .m) (p .shaped .heights) (p .no-gap) (p .once),
-        le-ltb 255 (cassetteCount s) (p .few),
-      )
+      no-fault s (shaped-in-place s (p .shaped) (p .some-shaft) (p .some-row)) (once-walks s (s .m) (p .shaped .heights) (p .no-gap) (p .once)) (p .few)

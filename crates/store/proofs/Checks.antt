@@ -1,7 +1,7 @@
 -- How the functions that check a store answer: a refusal with its number and no marks, or acceptance with the marks.
 use mathlib.Core.List.{List}
 use mathlib.Core.Path.{_≡_, refl, sym, ap, _∙_}
-use Prim.Native.Nat.{ℕ, _≤_}
+use Prim.Native.Nat.{ℕ, zero, suc, _≤_, _<_}
 use native.Mathlib.Omega.{arith}
 use Rattle.marks.specs.Marking.{noMarks, withMarks}
 use Rattle.store.specs.declared.Checked.{Checked}
@@ -12,31 +12,27 @@ use Rattle.store.specs.Numbers.{faultNumber, verdictNumber}
 use Rattle.store.specs.Promises.{marksUnless, CheckIs}
 use Rattle.store.proofs.Numbered.{only-verdict}
 
-no-marks : (f : Fault) (l : List ℕ) → marksUnless (faultNumber f) l ≡ noMarks
-no-marks OutOfPlace l = refl
-no-marks TooHigh l = refl
-no-marks NumberZero l = refl
-no-marks Twice l = refl
-no-marks TooMany l = refl
+no-marks : (k : ℕ) (l : List ℕ) → (k ≡ 0 → ⊥) → marksUnless k l ≡ noMarks
+no-marks zero l n = absurd (n refl)
+no-marks (suc k) l n = refl
+
+fault-range : (f : Fault) → (0 < faultNumber f) × (faultNumber f ≤ 12)
+fault-range OutOfPlace = omega arith
+fault-range TooHigh = omega arith
+fault-range NumberZero = omega arith
+fault-range Twice = omega arith
+fault-range TooMany = omega arith
 
 pub fault-one : (f : Fault) → faultNumber f ≡ 0 → ⊥
-fault-one OutOfPlace e = omega arith
-fault-one TooHigh e = omega arith
-fault-one NumberZero e = omega arith
-fault-one Twice e = omega arith
-fault-one TooMany e = omega arith
+fault-one f e = omega (arith, fault-range f)
 
 pub fault-most : (f : Fault) → faultNumber f ≤ 12
-fault-most OutOfPlace = omega arith
-fault-most TooHigh = omega arith
-fault-most NumberZero = omega arith
-fault-most Twice = omega arith
-fault-most TooMany = omega arith
+fault-most f = fault-range f .1
 
 pub refused-is : (f : Fault) (k : ℕ) (l : List ℕ) (r : Checked) → (r .verdict ≡ Refused f) × (r .marks ≡ noMarks) → k ≡ faultNumber f → CheckIs k l r
 refused-is f k l r p e = record {
   verdict = only-verdict (ap verdictNumber (p .0) ∙ sym e);
-  marks = p .1 ∙ sym (no-marks f l) ∙ ap (λ (n : ℕ). marksUnless n l) (sym e);
+  marks = p .1 ∙ sym (no-marks k l (λ z. fault-one f (sym e ∙ z)));
 }
 
 pub accepted-is : (k : ℕ) (l : List ℕ) (m : List ℕ) → k ≡ 0 → m ≡ withMarks noMarks l → CheckIs k l (record { verdict = Accepted; marks = m })

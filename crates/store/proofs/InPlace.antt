@@ -1,6 +1,6 @@
 -- When number 12 does not apply: each part of `inPlace`, and what it says of a store.
 use borrow.Author.Tests.{eqb-true, eq-eqb}
-use mathlib.Core.Bool.{Bool, true, false, _&&_}
+use mathlib.Core.Bool.{true, false, _&&_}
 use mathlib.Core.Path.{_≡_, _∙_}
 use Prim.Native.Nat.{ℕ, _≤_, _<_}
 use native.Mathlib.Decide.{decLt}
@@ -19,13 +19,6 @@ use Rattle.store.specs.Sound.{Shaped}
 use Rattle.shafts.proofs.AllBelow.{all-true, all-of}
 use Rattle.store.proofs.Typed.{shown-at, all-shown}
 
-four-true : (a b c d : Bool) → (((a && b) && c) && d) ≡ true → (a ≡ true) × (b ≡ true) × (c ≡ true) × (d ≡ true)
-four-true a b c d e =
-    let p = both-true ((a && b) && c) d e in
-    let q = both-true (a && b) c (p .0) in
-    let r = both-true a b (q .0) in
-    (r .0, r .1, q .1, p .1)
-
 module _ (s : Store) where
   pub frame-fails : frameInRange (s .m) (s .h) ≡ false → inPlace s ≡ false
   unfolding inPlace
@@ -38,12 +31,15 @@ module _ (s : Store) where
   by-shafts f a b c =
       simp (f, eq-eqb (length (s .heights)) mostShafts a, eq-eqb (length (s .slots)) slotCount b, all-shown (s .slots) c)
 
-module _ (s : Store) where
   -- what `inPlace` says of a store
   module _ (e : inPlace s ≡ true) where
     parts : (inRange (s .m) ≡ true) × (inRange (s .h) ≡ true) × (typed s ≡ true) × (allBelow mostShafts (shaftInPlace (s .m) (s .heights) (s .slots)) ≡ true)
     unfolding inPlace
-    parts = four-true (inRange (s .m)) (inRange (s .h)) (typed s) (allBelow mostShafts (shaftInPlace (s .m) (s .heights) (s .slots))) e
+    parts =
+        let p = both-true _ (allBelow mostShafts (shaftInPlace (s .m) (s .heights) (s .slots))) e in
+        let q = both-true _ (typed s) (p .0) in
+        let r = both-true (inRange (s .m)) (inRange (s .h)) (q .0) in
+        (r .0, r .1, q .1, p .1)
 
     pub shafts-in-range : (0 < s .m) × (s .m ≤ mostShafts)
     shafts-in-range = range (s .m) (parts .0)
@@ -87,7 +83,7 @@ module _ (s : Store) where
   -- a shaped store with a shaft and a row is in place
   pub shaped-in-place : Shaped s → 0 < s .m → ((x : ℕ) → x < s .m → 0 < depth s x) → inPlace s ≡ true
   shaped-in-place p m h =
-      by-shafts s (simp (range-true (s .m) m (p .shafts), range-true (s .h) (depth-least (s .h) 0 (h 0 m)) (rows-most (s .h) 0 (p .rows 0))))
+      by-shafts (simp (range-true (s .m) m (p .shafts), range-true (s .h) (depth-least (s .h) 0 (h 0 m)) (rows-most (s .h) 0 (p .rows 0))))
       (p .heights-sized) (p .slots-sized) (p .numbered)
       ∙ all-of mostShafts (shaftInPlace (s .m) (s .heights) (s .slots))
       (λ x i. shaft-in-place (s .m) (s .heights) (s .slots) x (p .none-beyond x) (λ k. p .none-above x k i))

@@ -32,10 +32,9 @@ module _ (s : Store) (x y : ℕ) where
   unfolding contentOf
   content-none e = rw e
 
-  module _ (e : hasSlot s x y ≡ true) where
-    pub content-at : getD (s .slots) (16 * x + (y - 1)) 0 ≡ contentOf s x y
-    unfolding contentOf
-    content-at = rw e (sym (shown-place (s .slots) x y (slot-range (s .m) (s .h) x y e .1 .0)))
+  pub content-at : hasSlot s x y ≡ true → getD (s .slots) (16 * x + (y - 1)) 0 ≡ contentOf s x y
+  unfolding contentOf
+  content-at e = rw e (sym (shown-place (s .slots) x y (slot-range (s .m) (s .h) x y e .1 .0)))
 
 -- a lift judged by the depth and the heights of a store
 pub judged-in : (s : Store) (a b : ℕ) {d left entered : ℕ} → d ≡ depth s b → left ≡ height s a → entered ≡ height s b → refusalBy (s .m) d a b left entered ≡ liftRefusal s a b
@@ -64,22 +63,18 @@ when-some (suc k) t s n = refl
 
 module _ (s : Store) (a b : ℕ) where
   -- a refused lift hands its store back
-  refused-same : (k : ℕ) (v : Answer) → answerNumber v ≡ k → (k ≡ 0 → ⊥) → liftNumber s a b ≡ k → LiftIs s a b (record { store = s; answer = v })
+  refused-same : (v : Answer) → (answerNumber v ≡ 0 → ⊥) → answerNumber v ≡ liftNumber s a b → LiftIs s a b (record { store = s; answer = v })
   unfolding afterLift
-  refused-same k v e n f =
-      record { answer = only-answer (e ∙ sym f); store = when-some (liftNumber s a b) (lifted s a b) s (λ z. n (sym f ∙ z)) }
+  refused-same v n e = record { answer = only-answer e; store = when-some (liftNumber s a b) (lifted s a b) s (λ z. n (e ∙ z)) }
 
   pub store-refused : (f : Fault) → storeFault s ≡ faultNumber f → LiftIs s a b (record { store = s; answer = Answer.StoreRefused f })
   unfolding liftNumber
   store-refused f e =
-      refused-same (faultNumber f) (Answer.StoreRefused f) refl (fault-one f)
-      (first-stays (storeFault s) (liftRefusal s a b) (λ z. fault-one f (sym e ∙ z)) ∙ e)
+      refused-same (Answer.StoreRefused f) (fault-one f) (sym (first-stays (storeFault s) (liftRefusal s a b) (λ z. fault-one f (sym e ∙ z)) ∙ e))
 
   pub lift-refused : (r : Refusal) → storeFault s ≡ 0 → refusalNumber r ≡ liftRefusal s a b → LiftIs s a b (record { store = s; answer = Answer.LiftRefused r })
   unfolding liftNumber
-  lift-refused r e f =
-      refused-same (refusalNumber r) (Answer.LiftRefused r) refl (refusal-one r)
-      (first-skips (storeFault s) (liftRefusal s a b) e ∙ sym f)
+  lift-refused r e f = refused-same (Answer.LiftRefused r) (refusal-one r) (f ∙ sym (first-skips (storeFault s) (liftRefusal s a b) e))
 
   pub lift-done : (t : Store) → storeFault s ≡ 0 → liftRefusal s a b ≡ 0 → t ≡ lifted s a b → LiftIs s a b (record { store = t; answer = Answer.Done })
   unfolding afterLift liftNumber

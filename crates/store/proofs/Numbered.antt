@@ -15,7 +15,7 @@ use Rattle.store.specs.Numbers.{faultNumber, verdictNumber, answerNumber
 
 -- An answer told from its number: nothing refused, a fault of the store, or a refusal of the lift.
 module _ {A : Type 0} (none : A) (store : Fault → A) (lift : Refusal → A) where
-  pub told : ℕ → A
+  unfoldable pub told : ℕ → A
   told k =
       cond (eqb k 0) none
       (cond (eqb k 12) (store OutOfPlace)

@@ -83,34 +83,20 @@ module _ (s : Store) where
       shaft-passed s x (once-walks x h n (once-front (cassettesBelow s x) (upward s x (height s x)) p))
       (by-rows s x (h x) ∙ rows-pass (cassettesBelow s x) x (height s x) (n x) p)
 
--- lists of what slots may show, joined from their parts
-below-nil : Below numbers []
-unfolding count
-below-nil c h = absurd (omega arith)
+-- a number that no slot may show stands nowhere
+module _ (s : Store) (b : (i : ℕ) → getD (s .slots) i 0 < numbers) (c : ℕ) (past : numbers ≤ c) where
+  none-upward : (x k : ℕ) → count c (upward s x k) ≡ 0
+  unfolding rowsUp shown count
+  none-upward x zero = refl
+  none-upward x (suc k) =
+      let n = ne-eqb c (slot s x (suc k)) (omega (arith, b (16 * x + k))) in
+      omega (arith, none-upward x k, count-more c (upward s x k) (slot s x (suc k)), ap one n)
 
-below-append : (l r : List ℕ) → Below numbers l → Below numbers r → Below numbers (l ++ r)
-below-append l r p q c h =
-    elim (decLt 0 (count c l)) [
-      | yes i ↦ p c i
-      | no i ↦ q c (omega (arith, count-append c l r))
-    ]
+  none-below : (x : ℕ) → count c (cassettesBelow s x) ≡ 0
+  unfolding cassettesBelow count
+  none-below zero = refl
+  none-below (suc x) = omega (arith, none-below x, none-upward x (height s x), count-append c (cassettesBelow s x) (upward s x (height s x)))
 
-below-one : (x : ℕ) → x < numbers → Below numbers (x ∷ [])
-unfolding count
-below-one x h c i =
-    elim (ℕ-discrete c x) [
-      | yes q ↦ omega arith
-      | no q ↦ omega (arith, ap one (ne-eqb c x q))
-    ]
-
-module _ (s : Store) (b : (i : ℕ) → getD (s .slots) i 0 < numbers) where
-  upward-below : (x k : ℕ) → Below numbers (upward s x k)
-  unfolding rowsUp shown
-  upward-below x zero = below-nil
-  upward-below x (suc k) = below-append (upward s x k) (slot s x (suc k) ∷ []) (upward-below x k) (below-one (slot s x (suc k)) (b (16 * x + k)))
-
-  -- the cassettes of a store are what its slots may show
-  pub cassettes-below : (x : ℕ) → Below numbers (cassettesBelow s x)
-  unfolding cassettesBelow
-  cassettes-below zero = below-nil
-  cassettes-below (suc x) = below-append (cassettesBelow s x) (upward s x (height s x)) (cassettes-below x) (upward-below x (height s x))
+-- the cassettes of a store are what its slots may show
+pub cassettes-below : (s : Store) → ((i : ℕ) → getD (s .slots) i 0 < numbers) → (x : ℕ) → Below numbers (cassettesBelow s x)
+cassettes-below s b x c h = elim (decLt c numbers) [ yes i ↦ i | no i ↦ absurd (omega (arith, none-below s b c (omega arith) x)) ]

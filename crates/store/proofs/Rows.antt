@@ -42,9 +42,7 @@ stack-top s x n e = subst (λ k. downward s x k ≡ slot s x k ∷ downward s x 
 pub same-rows : (s t : Store) (x n : ℕ) → ((k : ℕ) → k < n → slot s x (suc k) ≡ slot t x (suc k)) → downward s x n ≡ downward t x n
 unfolding rowsDown
 same-rows s t x zero e = refl
-same-rows s t x (suc n) e =
-    let u : downward s x n ≡ downward t x n = same-rows s t x n λ k h. e k (omega arith) in
-    λ i. e n (omega arith) i ∷ u i
+same-rows s t x (suc n) e = rw (same-rows s t x n (λ k h. e k (omega arith)), e n (omega arith))
 
 -- and the same list read downward is the same row by row
 pub rows-same : (s t : Store) (x n k : ℕ) → downward s x n ≡ downward t x n → k < n → slot s x (suc k) ≡ slot t x (suc k)

@@ -1,14 +1,15 @@
 -- The slot view and the stack view of a store agree: a lift of the one is a step of the other, and stores with the same stacks are the same.
 use mathlib.Core.List.{List, _∷_}
-use mathlib.Core.Path.{_≡_, sym, ap, _∙_, subst, fun-ext}
+use mathlib.Core.Path.{_≡_, sym, ap, _∙_, fun-ext}
 use Prim.Native.Nat.{ℕ, suc, _+_, _-_, _/_, _%_, _≤_, _<_}
 use native.Mathlib.Decide.{decLt, ℕ-discrete}
 use native.Mathlib.Nat.{div-add-mod}
 use native.Mathlib.Omega.{arith}
-use lib.ListN.{length, getD, set, length-set}
+use lib.ListN.{length, set, length-set}
 use lib.Seq.{getD-set-same, getD-set-other, ext-getD}
 use Rattle.stacks.specs.Run.{Stacks, Lift, Step}
 use Rattle.stacks.specs.Moves.{lift}
+use Rattle.stacks.proofs.Sums.{everywhere}
 use Rattle.lifts.specs.Lifting.{mostShafts, mostRows, slotCount, shown, placedAt}
 use Rattle.lifts.proofs.Moving.{placed-length, placed-same, placed-other}
 use Rattle.store.specs.declared.Store.{Store}
@@ -27,78 +28,31 @@ pub record Moved (s : Store) (a b : ℕ) (t : Store) : Type 0 where
   pub others : (x : ℕ) → (x ≡ a → ⊥) → (x ≡ b → ⊥) → height t x ≡ height s x
   pub kept : (x k : ℕ) → x < mostShafts → k < mostRows → ((x ≡ a) × (suc k ≡ height s a) → ⊥) → ((x ≡ b) × (k ≡ height s b) → ⊥) → slot t x (suc k) ≡ slot s x (suc k)
 
--- what a lift makes of each height, and of the slots but for the one entered
-module _ (s : Store) (a b : ℕ) (p : Shaped s) (q : Allowed s a b) where
-  left-height : height (lifted s a b) a ≡ height s a - 1
-  unfolding lifted
-  left-height =
-      getD-set-other (set (s .heights) a (height s a - 1)) b a (height s b + 1) 0 (q .differ)
-      ∙ getD-set-same (s .heights) a (height s a - 1) 0 (omega arith)
-
-  entered-height : height (lifted s a b) b ≡ height s b + 1
-  unfolding lifted
-  entered-height =
-      let l : List ℕ = set (s .heights) a (height s a - 1) in
-      let n : length l ≡ mostShafts = length-set (s .heights) a (height s a - 1) ∙ p .heights-sized in
-      getD-set-same l b (height s b + 1) 0 (omega arith)
-
-  other-height : (x : ℕ) → (x ≡ a → ⊥) → (x ≡ b → ⊥) → height (lifted s a b) x ≡ height s x
-  unfolding lifted
-  other-height x i j =
-      getD-set-other (set (s .heights) a (height s a - 1)) b x (height s b + 1) 0 j
-      ∙ getD-set-other (s .heights) a x (height s a - 1) 0 i
-
-  other-slot : (x n : ℕ) → n ≤ mostRows → ((x ≡ b) × (n ≡ suc (height s b)) → ⊥) → slot (lifted s a b) x n ≡ shown (placedAt (s .slots) a (height s a) 0) x n
-  unfolding lifted
-  other-slot x n i d =
-      placed-other (placedAt (s .slots) a (height s a) 0) b (suc (height s b)) (slot s a (height s a)) x n (omega (arith, q .room, p .rows b)) i d
-
 pub lift-moves : (s : Store) (a b : ℕ) → Shaped s → Allowed s a b → Moved s a b (lifted s a b)
 unfolding lifted
 lift-moves s a b p q =
     let a-rows : height s a ≤ mostRows = omega (arith, p .heights a, p .rows a) in
     let b-rows : height s b < mostRows = omega (arith, q .room, p .rows b) in
+    let heights = set (s .heights) a (height s a - 1) in
     let l : List ℕ = placedAt (s .slots) a (height s a) 0 in
     let n : length l ≡ slotCount = placed-length (s .slots) a (height s a) 0 ∙ p .slots-sized in
+    let other : (x n : ℕ) → n ≤ mostRows → ((x ≡ b) × (n ≡ suc (height s b)) → ⊥) → slot (lifted s a b) x n ≡ shown l x n =
+    λ x n. placed-other l b (suc (height s b)) (slot s a (height s a)) x n (omega arith) in
     record {
-      gone = other-slot s a b p q a (height s a) (omega arith) (λ z. q .differ (z .0))
+      gone = other a (height s a) (omega arith) (λ z. q .differ (z .0))
           ∙ placed-same (s .slots) a (height s a) 0 (p .slots-sized) (omega arith) (q .taken) (omega arith);
       placed = placed-same l b (suc (height s b)) (slot s a (height s a)) n (omega arith) (omega arith) (omega arith);
-      lower = omega (arith, left-height s a b p q);
-      higher = omega (arith, entered-height s a b p q);
-      others = other-height s a b p q;
-      kept = λ x k i j d f. other-slot s a b p q x (suc k) j (λ z. f (z .0, omega arith))
-          ∙ placed-other (s .slots) a (height s a) 0 x (suc k) (omega arith) j d;
+      lower = omega (arith, getD-set-other heights b a (height s b + 1) 0 (q .differ), getD-set-same (s .heights) a (height s a - 1) 0 (omega arith));
+      higher = omega (arith, getD-set-same heights b (height s b + 1) 0 (omega (arith, length-set (s .heights) a (height s a - 1))));
+      others = λ x i j. getD-set-other heights b x (height s b + 1) 0 j ∙ getD-set-other (s .heights) a x (height s a - 1) 0 i;
+      kept = λ x k i j d f. other x (suc k) j (λ z. f (z .0, omega arith)) ∙ placed-other (s .slots) a (height s a) 0 x (suc k) (omega arith) j d;
     }
 
 -- what holds of both shafts of a lift and of every other shaft holds of all
 at-and-elsewhere : (P : ℕ → Type 0) (a b : ℕ) → P a → P b → ((x : ℕ) → (x ≡ a → ⊥) → (x ≡ b → ⊥) → P x) → (x : ℕ) → P x
-at-and-elsewhere P a b u v w x =
-    elim (ℕ-discrete x a) [
-      | yes e ↦ subst P (sym e) u
-      | no i ↦ elim (ℕ-discrete x b) [ yes e ↦ subst P (sym e) v | no j ↦ w x i j ]
-    ]
+at-and-elsewhere P a b u v w = everywhere P a u (everywhere (λ x. (x ≡ a → ⊥) → P x) b (λ i. v) (λ x j i. w x i j))
 
 -- after a lift nothing stands above the new heights
-module _ (s : Store) (a b : ℕ) (p : Shaped s) (q : Allowed s a b) where
-  left-above : (k : ℕ) → a < mostShafts → k < mostRows → height (lifted s a b) a ≤ k → slot (lifted s a b) a (suc k) ≡ 0
-  left-above k i j h =
-      let v = lift-moves s a b p q in
-      elim (ℕ-discrete (suc k) (height s a)) [
-        | yes e ↦ ap (slot (lifted s a b) a) e ∙ v .gone
-        | no n ↦ v .kept a k i j (λ z. n (z .1)) (λ z. q .differ (z .0)) ∙ p .none-above a k i j (omega arith)
-      ]
-
-  entered-above : (k : ℕ) → b < mostShafts → k < mostRows → height (lifted s a b) b ≤ k → slot (lifted s a b) b (suc k) ≡ 0
-  entered-above k i j h =
-      let v = lift-moves s a b p q in
-      v .kept b k i j (λ z. q .differ (sym (z .0))) (omega arith) ∙ p .none-above b k i j (omega arith)
-
-  other-above : (x : ℕ) → (x ≡ a → ⊥) → (x ≡ b → ⊥) → (k : ℕ) → x < mostShafts → k < mostRows → height (lifted s a b) x ≤ k → slot (lifted s a b) x (suc k) ≡ 0
-  other-above x n o k i j h =
-      let v = lift-moves s a b p q in
-      v .kept x k i j (λ z. n (z .0)) (λ z. o (z .0)) ∙ p .none-above x k i j (omega (arith, v .others x n o))
-
 pub lifted-shaped : (s : Store) (a b : ℕ) → Shaped s → Allowed s a b → Shaped (lifted s a b)
 unfolding lifted
 lifted-shaped s a b p q =
@@ -106,7 +60,7 @@ lifted-shaped s a b p q =
     let v : Moved s a b t = lift-moves s a b p q in
     record {
       heights-sized = simp length-set (p .heights-sized);
-      slots-sized = simp (length-set, placed-length) (p .slots-sized);
+      slots-sized = simp placed-length (p .slots-sized);
       numbered = placed-numbered (placedAt (s .slots) a (height s a) 0) b (suc (height s b)) _ (slot-numbered s a (height s a) (p .numbered)) (placed-numbered (s .slots) a (height s a) 0 (omega arith) (p .numbered));
       shafts = p .shafts;
       rows = p .rows;
@@ -114,50 +68,46 @@ lifted-shaped s a b p q =
           (λ x i j. rw (v .others x i j) (p .heights x));
       none-beyond = λ x i. v .others x (omega arith) (omega arith) ∙ p .none-beyond x i;
       none-above = at-and-elsewhere (λ x. (k : ℕ) → x < mostShafts → k < mostRows → height t x ≤ k → slot t x (suc k) ≡ 0) a b
-          (left-above s a b p q) (entered-above s a b p q) (other-above s a b p q);
+          (λ k i j h. elim (ℕ-discrete (suc k) (height s a)) [
+            | yes e ↦ ap (slot t a) e ∙ v .gone
+            | no n ↦ v .kept a k i j (λ z. n (z .1)) (λ z. q .differ (z .0)) ∙ p .none-above a k i j (omega arith)
+          ])
+          (λ k i j h. v .kept b k i j (λ z. q .differ (sym (z .0))) (omega arith) ∙ p .none-above b k i j (omega arith))
+          (λ x n o k i j h. v .kept x k i j (λ z. n (z .0)) (λ z. o (z .0)) ∙ p .none-above x k i j (omega (arith, v .others x n o)));
     }
 
--- a shaft that holds a cassette is one of the 16
-shaft-below : (s : Store) (x : ℕ) → Shaped s → 0 < height s x → x < mostShafts
-shaft-below s x p h =
-    elim (decLt x (s .m)) [
-      | yes i ↦ omega arith
-      | no i ↦ absurd (omega (arith, p .none-beyond x (omega arith)))
-    ]
+-- a shaft that holds a cassette is one of the store's
+pub holds-below : (s : Store) (x : ℕ) → Shaped s → 0 < height s x → x < s .m
+holds-below s x p h = elim (decLt x (s .m)) [ yes i ↦ i | no i ↦ absurd (omega (arith, p .none-beyond x (omega arith))) ]
 
 -- what a lift makes of each stack
 module _ (s : Store) (a b : ℕ) (p : Shaped s) (q : Allowed s a b) where
-  left-rows : (k : ℕ) → k < height (lifted s a b) a → slot s a (suc k) ≡ slot (lifted s a b) a (suc k)
-  left-rows k h =
-      let v = lift-moves s a b p q in
-      sym (v .kept a k (omega arith) (omega (arith, p .heights a, p .rows a)) (omega arith) (λ z. q .differ (z .0)))
+  moves : Moved s a b (lifted s a b)
+  moves = lift-moves s a b p q
+
+  -- a row that holds a cassette before and after holds the same
+  kept-rows : (x k : ℕ) → k < height s x → k < height (lifted s a b) x → slot (lifted s a b) x (suc k) ≡ slot s x (suc k)
+  kept-rows x k h i =
+      moves .kept x k (omega (arith, holds-below s x p (omega arith), p .shafts)) (omega (arith, p .heights x, p .rows x))
+      (λ z. omega (arith, moves .lower, ap (height (lifted s a b)) (z .0))) (λ z. omega (arith, ap (height s) (z .0)))
 
   left-stack : stack s a ≡ slot s a (height s a) ∷ stack (lifted s a b) a
   unfolding stack
   left-stack =
-      let v = lift-moves s a b p q in
       let n = height (lifted s a b) a in
-      stack-top s a n (v .lower) ∙ rw (same-rows s (lifted s a b) a n left-rows)
-
-  entered-rows : (k : ℕ) → k < height s b → slot (lifted s a b) b (suc k) ≡ slot s b (suc k)
-  entered-rows k h =
-      lift-moves s a b p q .kept b k (omega arith) (omega (arith, p .heights b, p .rows b)) (λ z. q .differ (sym (z .0))) (omega arith)
+      stack-top s a n (moves .lower) ∙ rw (same-rows s (lifted s a b) a n (λ k h. sym (kept-rows a k (omega (arith, moves .lower)) h)))
 
   entered-stack : stack (lifted s a b) b ≡ slot s a (height s a) ∷ stack s b
   unfolding stack
   entered-stack =
-      let v = lift-moves s a b p q in
-      stack-top (lifted s a b) b (height s b) (sym (v .higher))
-      ∙ rw (v .higher, v .placed, same-rows (lifted s a b) s b (height s b) entered-rows)
-
-  other-rows : (x : ℕ) → (x ≡ a → ⊥) → (x ≡ b → ⊥) → (k : ℕ) → k < height s x → slot (lifted s a b) x (suc k) ≡ slot s x (suc k)
-  other-rows x i j k h =
-      let v = lift-moves s a b p q in
-      v .kept x k (shaft-below s x p (omega arith)) (omega (arith, p .heights x, p .rows x)) (λ z. i (z .0)) (λ z. j (z .0))
+      stack-top (lifted s a b) b (height s b) (sym (moves .higher))
+      ∙ rw (moves .higher, moves .placed, same-rows (lifted s a b) s b (height s b) (λ k h. kept-rows b k h (omega (arith, moves .higher))))
 
   other-stack : (x : ℕ) → (x ≡ a → ⊥) → (x ≡ b → ⊥) → stack (lifted s a b) x ≡ stack s x
   unfolding stack
-  other-stack x i j = rw (other-height s a b p q x i j) (same-rows (lifted s a b) s x (height s x) (other-rows x i j))
+  other-stack x i j =
+      let e = moves .others x i j in
+      rw e (same-rows (lifted s a b) s x (height s x) (λ k h. kept-rows x k h (omega arith)))
 
 -- an allowed lift is a step of the stacks
 pub lift-step : (s : Store) (a b : ℕ) → Shaped s → Allowed s a b → Step (s .m) (depth s) (lift a b) (stack s) (stack (lifted s a b))
@@ -206,15 +156,11 @@ module _ (s t : Store) (p : Shaped s) (q : Shaped t) (g : (x : ℕ) → stack s 
         | no h ↦ p .none-above x k i j (omega arith) ∙ sym (q .none-above x k i j (omega arith))
       ]
 
-  same-at : (i : ℕ) → i < slotCount → getD (s .slots) i 0 ≡ getD (t .slots) i 0
-  unfolding shown
-  same-at i h =
-      let e = same-slot (i / 16) (i % 16) (omega arith) (omega arith) in
-      rw div-add-mod at e
-
   same-slots : s .slots ≡ t .slots
+  unfolding shown
   same-slots =
-      ext-getD 0 (s .slots) (t .slots) (p .slots-sized ∙ sym (q .slots-sized)) λ i h. same-at i (omega (arith, p .slots-sized))
+      ext-getD 0 (s .slots) (t .slots) (p .slots-sized ∙ sym (q .slots-sized))
+      λ i h. rw div-add-mod at (same-slot (i / 16) (i % 16) (omega (arith, p .slots-sized)) (omega arith))
 
 -- no two shaped stores of one frame have the same stacks
 pub same-stacks : (s t : Store) → Shaped s → Shaped t → SameFrame s t → ((x : ℕ) → stack s x ≡ stack t x) → s ≡ t

@@ -2,7 +2,6 @@
 use mathlib.Core.List.{List, []}
 use mathlib.Core.Path.{_≡_, refl, sym, ap, _∙_, subst}
 use Prim.Native.Nat.{ℕ, suc, _≤_, _<_}
-use native.Mathlib.Omega.{arith}
 use Rattle.marks.specs.declared.Taken.{Taken}
 use Rattle.marks.specs.Taking.{takenNumber}
 use Rattle.marks.specs.Marking.{noMarks, Marked}
@@ -11,7 +10,7 @@ use Rattle.store.specs.declared.Store.{Store}
 use Rattle.store.specs.declared.Fault.{Fault}
 use Rattle.store.specs.declared.Verdict.{Verdict}
 use Rattle.shafts.specs.Rows.{RowsAre}
-use Rattle.store.specs.Accept.{shaftsFault}
+use Rattle.store.specs.Accept.{shaftFault, shaftsFault}
 use Rattle.store.specs.Checking.{ShaftsAre}
 use Rattle.store.specs.Numbers.{faultNumber, verdictNumber}
 use Rattle.store.specs.Slots.{depth, height, cassettesBelow, cassettes}
@@ -29,17 +28,18 @@ unfolding shaftsFault cassettesBelow
 no-shafts s e = record { none = refl; marks = subst (λ (w : List ℕ). Marked w []) (sym e) nothing-marked }
 
 module _ {s : Store} {x : ℕ} {words words′ : List ℕ} (p : ShaftsSoFar s x words) where
-  faulted : (f : Fault) (y : ℕ) → shaftsFault s y ≡ faultNumber f → y ≡ s .m → ShaftsAre s words′ (Verdict.Refused f)
-  faulted f y e h = record { verdict = only-verdict (sym (ap (shaftsFault s) (sym h) ∙ e)); marks = λ z. absurd (fault-one f (ap verdictNumber z)) }
+  faulted : (f : Fault) → x < s .m → shaftFault s x ≡ faultNumber f → ShaftsAre s words′ (Verdict.Refused f)
+  faulted f h e = record {
+    verdict = only-verdict (sym (shaft-met s x (s .m) (faultNumber f) (p .none) e (fault-one f) h));
+    marks = λ z. absurd (fault-one f (ap verdictNumber z));
+  }
 
   pub shaft-high : x < s .m → depth s x < height s x → ShaftsAre s words′ (Verdict.Refused Fault.TooHigh)
-  shaft-high h i = faulted Fault.TooHigh (s .m) (shaft-met s x (s .m) 3 (p .none) (too-high s x i) (omega arith) h) refl
+  shaft-high h i = faulted Fault.TooHigh h (too-high s x i)
 
   pub shaft-refused : (f : Fault) → x < s .m → height s x ≤ depth s x → {r : Taken} → RowsAre words (s .slots) x (height s x) words′ r → takenNumber r ≡ faultNumber f
       → ShaftsAre s words′ (Verdict.Refused f)
-  shaft-refused f h i q e =
-      faulted f (s .m)
-      (shaft-met s x (s .m) (faultNumber f) (p .none) (by-rows s x i ∙ sym (q .fault _ (p .marks)) ∙ e) (fault-one f) h) refl
+  shaft-refused f h i q e = faulted f h (by-rows s x i ∙ sym (q .fault _ (p .marks)) ∙ e)
 
   pub shaft-taken : height s x ≤ depth s x → {r : Taken} → RowsAre words (s .slots) x (height s x) words′ r → r ≡ Taken.Added → ShaftsSoFar s (suc x) words′
   unfolding cassettesBelow

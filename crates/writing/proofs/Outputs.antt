@@ -1,13 +1,12 @@
 -- Writing, as the code does it: rows and shafts one after the other, and what the lent bytes hold at the end.
-use mathlib.Core.Bool.{Bool}
-use mathlib.Core.List.{List, [], _∷_, _++_, append-nil}
-use mathlib.Core.Path.{_≡_, refl, sym, ap, ap₂, _∙_, subst}
+use mathlib.Core.List.{List, [], _++_, append-nil}
+use mathlib.Core.Path.{_≡_, refl, sym, ap, _∙_}
 use Prim.Native.Nat.{ℕ, zero, suc, _+_, _*_, _≤_, _<_}
 use native.Mathlib.Numerals.{add-one}
 use native.Mathlib.Omega.{arith}
-use lib.ListN.{length, getD, drop, length-append, take-append-drop}
+use lib.ListN.{length, getD, length-append, take-append-drop}
 use Rattle.pens.specs.declared.Pen.{Pen}
-use Rattle.bits.specs.Fields.{bits, packed, bytesOf}
+use Rattle.bits.specs.Fields.{bits, packed}
 use Rattle.pens.specs.Pens.{noBits, Pushes, Pads}
 use Rattle.bits.proofs.Bytes.{bytes-agree, padded-agrees}
 use Rattle.pens.proofs.Pushed.{pushes-none, pushes-then, holds-none, stored-bytes}
@@ -39,14 +38,7 @@ module _ (w : ℕ) (slots : List ℕ) (x : ℕ) where
   pub row-more : (k v : ℕ) {a b c : List ℕ} {p q r : Pen} → v ≡ getD slots (16 * x + k) 0 → Pushes (packed w (rowsUp slots x k)) a b p q
       → Pushes (bits w v) b c q r → Pushes (packed w (rowsUp slots x (k + 1))) a c p r
   unfolding rowsUp shown packed
-  row-more k v {a} {b} {c} {p} {q} {r} i f g =
-      let rows = rowsUp slots x k in
-      let e : packed w (rowsUp slots x (k + 1)) ≡ packed w rows ++ bits w v =
-      ap (λ (n : ℕ). packed w (rowsUp slots x n)) (add-one k)
-      ∙ ap (λ (n : ℕ). packed w (rows ++ (n ∷ []))) (sym i)
-      ∙ packed-append w rows (v ∷ [])
-      ∙ ap (λ (l : List Bool). packed w rows ++ l) (append-nil (bits w v)) in
-      subst (λ (l : List Bool). Pushes l a c p r) (sym e) (pushes-then f g)
+  row-more k v i f g = rw (add-one, packed-append, append-nil, ← i) (pushes-then f g)
 
 -- the shafts
 module _ (heights slots : List ℕ) where
@@ -58,16 +50,13 @@ module _ (heights slots : List ℕ) where
   pub shaft-written : (x v : ℕ) {a b c : List ℕ} {p q r : Pen} → v ≡ heightIn heights x → Pushes (bits heightWidth v) a b p q
       → Pushes (packed cassetteWidth (rowsUp slots x v)) b c q r → Pushes (columnBits heights slots x) a c p r
   unfolding columnBits
-  shaft-written x v {a} {b} {c} {p} {q} {r} i f g =
-      subst (λ (n : ℕ). Pushes (bits heightWidth n ++ packed cassetteWidth (rowsUp slots x n)) a c p r) i (pushes-then f g)
+  shaft-written x v i f g = rw (← i) (pushes-then f g)
 
   -- one shaft more
   pub shaft-more : (x : ℕ) {a b c : List ℕ} {p q r : Pen} → Pushes (columnsBits heights slots x) a b p q → Pushes (columnBits heights slots x) b c q r
       → Pushes (columnsBits heights slots (x + 1)) a c p r
   unfolding columnsBits
-  shaft-more x {a} {b} {c} {p} {q} {r} f g =
-      let e : columnsBits heights slots (x + 1) ≡ columnsBits heights slots x ++ columnBits heights slots x = ap (columnsBits heights slots) (add-one x) in
-      subst (λ (l : List Bool). Pushes l a c p r) (sym e) (pushes-then f g)
+  shaft-more x f g = rw add-one (pushes-then f g)
 
 -- how many bits the shafts take
 module _ (heights : List ℕ) where
@@ -90,48 +79,35 @@ module _ (s : Store) (e : Accepted s) where
   has-frame = let p = accepted-sound s e in (p .some-shaft, depth-least (s .h) 0 (p .some-row 0 (p .some-shaft)))
 
 -- a refusal writes nothing
-none-counted : (k : ℕ) (s : Store) → (k ≡ 0 → ⊥) → 0 ≡ countAfter k s
-none-counted zero s n = absurd (n refl)
-none-counted (suc k) s n = refl
-
-none-written : (k : ℕ) (s : Store) (out : List ℕ) → (k ≡ 0 → ⊥) → out ≡ bytesAfter k s out
+none-written : (k : ℕ) (s : Store) (out : List ℕ) → (k ≡ 0 → ⊥) → (0 ≡ countAfter k s) × (out ≡ bytesAfter k s out)
 none-written zero s out n = absurd (n refl)
-none-written (suc k) s out n = refl
+none-written (suc k) s out n = (refl, refl)
 
 -- a refusal with the number that is due
 pub refused-write : (s : Store) {out next : List ℕ} {r : Written} (a : WriteAnswer) → RefusedWrite a out next r → writeRefusal s (length out) ≡ writeNumber a
     → (writeNumber a ≡ 0 → ⊥) → WriteIs s out next r
-refused-write s {out} {next} {r} a p e n =
-    rw (p .is) (record {
-      answer = only-write (sym e);
-      count = none-counted (writeNumber a) s n ∙ ap (λ (j : ℕ). countAfter j s) (sym e);
-      bytes = p .bytes ∙ none-written (writeNumber a) s out n ∙ ap (λ (j : ℕ). bytesAfter j s out) (sym e);
-    })
+refused-write s {out} a p e n =
+    let w = none-written (writeRefusal s (length out)) s out (λ z. n (sym e ∙ z)) in
+    rw (p .is) (record { answer = only-write (sym e); count = w .0; bytes = p .bytes ∙ w .1 })
 
 -- a store that is not refused, in a space that holds its image
 module _ (s : Store) (out : List ℕ) (e : Accepted s) (room : imageLength s ≤ length out) where
-  none-refused : writeRefusal s (length out) ≡ 0
-  none-refused = not-refused s out e room
-
   -- the fields, and zero bits to the end of the byte
   pub image-written : (a b next : List ℕ) (p q r : Pen) → Pushes (headBits s) out a noBits p → Pushes (shaftsBits s (s .m)) a b p q → Pads b next q r
       → WriteIs s out next (record { count = r .at; answer = Whole })
   unfolding imageBits imageLength imageOf
   image-written a b next p q r f g h =
+      let none = not-refused s out e room in
       let all = pushes-then (pushes-then f g) (h .pushes) in
       let held = all .holds out [] (holds-none out) in
+      let l = imageBits s ++ bits (h .zeros) 0 in
       let z = length-bits (h .zeros) 0 in
       let n = length-append (imageBits s) (bits (h .zeros) 0) in
       let count : r .at ≡ imageLength s = omega (arith, all .count, h .whole, h .few) in
+      let first = stored-bytes out next r l held (h .whole) (omega (arith, held .same-length)) in
+      let same = bytes-agree (imageLength s) l (imageBits s) (padded-agrees (imageBits s) (h .zeros)) in
       record {
-        answer = only-write (sym none-refused);
-        count = count ∙ ap (λ (k : ℕ). countAfter k s) (sym none-refused);
-        bytes =
-            sym (take-append-drop (r .at) next)
-            ∙ ap₂ (λ (u v : List ℕ). u ++ v)
-            (stored-bytes out next r (imageBits s ++ bits (h .zeros) 0) held (h .whole) (omega (arith, held .same-length))
-            ∙ ap (λ (k : ℕ). bytesOf k (imageBits s ++ bits (h .zeros) 0)) count
-            ∙ bytes-agree (imageLength s) (imageBits s ++ bits (h .zeros) 0) (imageBits s) (padded-agrees (imageBits s) (h .zeros)))
-            (held .kept ∙ ap (λ (k : ℕ). drop k out) count)
-            ∙ ap (λ (k : ℕ). bytesAfter k s out) (sym none-refused);
+        answer = only-write (sym none);
+        count = rw none count;
+        bytes = rw none (cc (take-append-drop (r .at) next, first, count, same, held .kept));
       }

@@ -1,6 +1,7 @@
 -- `write_shafts` meets its contract: after x turns the shafts below x are written.
-use mathlib.Core.Path.{_≡_, subst}
-use Prim.Native.Nat.{ℕ, _-_, _≤_}
+use borrow.Author.Needs.{needs}
+use mathlib.Core.Path.{_≡_}
+use Prim.Native.Nat.{_-_, _≤_}
 use native.Mathlib.Omega.{arith}
 use Rattle.pens.specs.Pens.{Pushes}
 use Rattle.image.specs.Image.{columnsBits}
@@ -15,39 +16,19 @@ Inv-loop heights slots out₀ shafts q₀ x₀ out q x = (x ≤ shafts) × Pushe
 abbrev μ-loop : tie.MeasureT-loop
 μ-loop heights slots out₀ shafts q₀ x₀ out q x = shafts - x
 
-loop-holds : tie.Need-loop-holds Inv-loop μ-loop
-loop-holds c = let a = c .before .args in (omega arith, no-shafts (a .heights .now) (a .slots .now) (a .out .now) (a .p) (c .before .pre .1 .0))
-
 write-shaft-requires : tie.Need-write-shaft-requires Inv-loop μ-loop
 write-shaft-requires c κs =
-    let a = c .before .before .before .before .args in
     let k = c .before .before .loop in
-    let p = c .before .before .before .before .pre .0 in (
-      (omega (arith, c .before .loop-test .taken, p .most), p .rows (k .x), k .inv .1 .full),
-      omega (arith, c .before .before .before .before .pre .1 .1, k .inv .1 .count, k .inv .1 .same-length, shafts-within (a .heights .now) (a .slots .now) (k .x) (a .shafts) (c .before .loop-test .taken)),
-    )
-
-add-x : tie.Need-add-x Inv-loop μ-loop
-add-x c = omega (arith, c .before .before .before .before .loop-test .taken)
-
-loop-less : tie.Need-loop-less Inv-loop μ-loop
-loop-less c = omega (arith, c .before .before .before .before .loop-test .taken)
+    let a = c .before .before .before .before in
+    omega (arith, a .pre .0 .rows (k .x), shafts-within (a .args .heights .now) (a .args .slots .now) (k .x) (a .args .shafts) (c .before .loop-test .taken))
 
 loop-again : tie.Need-loop-again Inv-loop μ-loop
 loop-again c =
-    let a = c .before .before .before .before .before .before .before .args in
     let k = c .before .before .before .before .before .loop in
-    (omega (arith, c .before .before .before .before .loop-test .taken), shaft-more (a .heights .now) (a .slots .now) (k .x) (k .inv .1) (c .before .before .write-shaft .ensures))
-
-same-length : tie.Need-same-length Inv-loop μ-loop
-same-length c = c .before .loop .inv .1 .same-length
+    (omega arith, shaft-more _ _ (k .x) (k .inv .1) (c .before .before .write-shaft .ensures))
 
 returns : tie.Need-returns Inv-loop μ-loop
-returns c =
-    let a = c .before .before .before .args in
-    let k = c .before .loop in
-    let e : k .x ≡ a .shafts = omega (arith, c .loop-test .left, k .inv .0) in
-    subst (λ (j : ℕ). Pushes (columnsBits (a .heights .now) (a .slots .now) j) (a .out .now) (k .out) (a .p) (k .q)) e (k .inv .1)
+returns c = let e : c .before .loop .x ≡ c .before .before .before .args .shafts = omega arith in rw e at (c .before .loop .inv .1)
 
 pub write-shafts-spec : {M : Type 1} → statement M
 write-shafts-spec =
@@ -55,10 +36,10 @@ write-shafts-spec =
     (tie.spec
     Inv-loop
     μ-loop
-    loop-holds
+    (λ c. (omega arith, no-shafts _ _ _ _ (c .before .pre .1 .0)))
     write-shaft-requires
-    add-x
-    loop-less
+    (λ c. search needs)
+    (λ c. search needs)
     loop-again
-    same-length
+    (λ c. c .before .loop .inv .1 .same-length)
     returns)
