@@ -16,18 +16,5 @@ cast-t19 c = let t = c .before .before .before .before .before .before .before .
 pub look-ahead-spec : {M : Type 1} → statement M
 look-ahead-spec =
     tie.close
-    (tie.spec
-    (λ c κs. search needs)
-    (λ c κs. search needs)
-    (λ c. search needs)
-    (λ c. search needs)
-    (λ c. search needs)
-    (λ c. search needs)
-    cast-t13
-    (λ c. search needs)
-    add-t17
-    (λ c. search needs)
-    cast-t19
-    (λ c. search needs)
-    (λ c. search needs)
-    (λ c. search needs))
+    (tie.spec (λ c κs. search needs) (λ c κs. search needs) (λ c. search needs) (λ c. search needs) (λ c. search needs) (λ c. search needs)
+    cast-t13 (λ c. search needs) add-t17 (λ c. search needs) cast-t19 (λ c. search needs) (λ c. search needs) (λ c. search needs))

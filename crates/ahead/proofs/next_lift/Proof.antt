@@ -19,5 +19,4 @@ returns-4 c = let e = c .before .before in from-b (e .before .before .before .ar
 
 pub next-lift-spec : {M : Type 1} → statement M
 next-lift-spec =
-    tie.close
-    (tie.spec (λ c κs. search needs) (λ c κs. search needs) returns returns-2 (λ c κs. search needs) returns-3 returns-4)
+    tie.close (tie.spec (λ c κs. search needs) (λ c κs. search needs) returns returns-2 (λ c κs. search needs) returns-3 returns-4)

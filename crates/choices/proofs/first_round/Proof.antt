@@ -33,12 +33,5 @@ returns-2 c =
 pub first-round-spec : {M : Type 1} → statement M
 first-round-spec =
     tie.close
-    (tie.spec
-    (λ c κs. search needs)
-    next-requires
-    (λ c κs. search needs)
-    (λ c. search needs)
-    returns
-    (λ c. search needs)
-    (λ c κs. search needs)
-    returns-2)
+    (tie.spec (λ c κs. search needs) next-requires (λ c κs. search needs) (λ c. search needs) returns (λ c. search needs)
+    (λ c κs. search needs) returns-2)

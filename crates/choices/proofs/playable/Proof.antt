@@ -51,13 +51,5 @@ returns-3 c =
 pub playable-spec : {M : Type 1} → statement M
 playable-spec =
     tie.close
-    (tie.spec
-    (λ c κs. search needs)
-    returns
-    (λ c. search needs)
-    array-read-if2
-    element-copy-out-if2
-    returns-2
-    next-requires
-    (λ c κs. search needs)
-    returns-3)
+    (tie.spec (λ c κs. search needs) returns (λ c. search needs) array-read-if2 element-copy-out-if2 returns-2 next-requires
+    (λ c κs. search needs) returns-3)

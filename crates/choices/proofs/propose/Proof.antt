@@ -29,21 +29,6 @@ add-cost c =
 pub propose-spec : {M : Type 1} → statement M
 propose-spec =
     tie.close
-    (tie.spec
-    Inv-loop
-    μ-loop
-    (λ c. search needs)
-    (λ c. search needs)
-    (λ c. search needs)
-    (λ c. search needs)
-    next-requires
-    (λ c. search needs)
-    (λ c. search needs)
-    (λ c. search needs)
-    cover-requires
-    add-cost
-    (λ c. search needs)
-    (λ c. search needs)
-    (λ c. search needs)
-    (λ c κs. search needs)
-    (λ c. search needs))
+    (tie.spec Inv-loop μ-loop (λ c. search needs) (λ c. search needs) (λ c. search needs) (λ c. search needs) next-requires
+    (λ c. search needs) (λ c. search needs) (λ c. search needs) cover-requires add-cost (λ c. search needs) (λ c. search needs)
+    (λ c. search needs) (λ c κs. search needs) (λ c. search needs))

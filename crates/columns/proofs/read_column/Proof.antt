@@ -31,13 +31,5 @@ returns-3 c =
 pub read-column-spec : {M : Type 1} → statement M
 read-column-spec =
     tie.close
-    (tie.spec
-    returns
-    (λ c. search needs)
-    (λ c κs. search needs)
-    (λ c κs. search needs)
-    returns-2
-    (λ c. search needs)
-    (λ c. search needs)
-    read-rows-requires
-    returns-3)
+    (tie.spec returns (λ c. search needs) (λ c κs. search needs) (λ c κs. search needs) returns-2 (λ c. search needs) (λ c. search needs)
+    read-rows-requires returns-3)

@@ -48,14 +48,4 @@ returns c =
 
 pub read-shafts-spec : {M : Type 1} → statement M
 read-shafts-spec =
-    tie.close
-    (tie.spec
-    Inv-loop
-    μ-loop
-    loop-holds
-    next-field-requires
-    read-column-requires
-    add-x
-    loop-less
-    loop-again
-    returns)
+    tie.close (tie.spec Inv-loop μ-loop loop-holds next-field-requires read-column-requires add-x loop-less loop-again returns)

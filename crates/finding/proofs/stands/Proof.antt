@@ -49,17 +49,5 @@ returns-4 c =
 pub stands-spec : {M : Type 1} → statement M
 stands-spec =
     tie.close
-    (tie.spec
-    (λ c κs. search needs)
-    returns
-    (λ c. search needs)
-    element-copy-out-if2
-    returns-2
-    element-copy-out-if3
-    returns-3
-    (λ c. search needs)
-    (λ c. search needs)
-    (λ c. search needs)
-    (λ c. search needs)
-    element-copy-out-result
-    returns-4)
+    (tie.spec (λ c κs. search needs) returns (λ c. search needs) element-copy-out-if2 returns-2 element-copy-out-if3 returns-3
+    (λ c. search needs) (λ c. search needs) (λ c. search needs) (λ c. search needs) element-copy-out-result returns-4)

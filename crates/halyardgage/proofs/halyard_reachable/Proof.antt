@@ -13,11 +13,4 @@ returns-2 c = reach-answered (c .before .before .before .before .before .read-bo
 pub halyard-reachable-spec : {M : Type 1} → statement M
 halyard-reachable-spec =
     tie.close
-    (tie.spec
-    (λ c κs. search needs)
-    (λ c. search needs)
-    returns
-    (λ c κs. search needs)
-    (λ c κs. search needs)
-    (λ c. search needs)
-    returns-2)
+    (tie.spec (λ c κs. search needs) (λ c. search needs) returns (λ c κs. search needs) (λ c κs. search needs) (λ c. search needs) returns-2)

@@ -22,5 +22,4 @@ returns-2 c = c .before .before .make-three .ensures
 
 pub make-spec : {M : Type 1} → statement M
 make-spec =
-    tie.close
-    (tie.spec make-two-requires (λ c. search needs) returns make-three-requires (λ c. search needs) returns-2)
+    tie.close (tie.spec make-two-requires (λ c. search needs) returns make-three-requires (λ c. search needs) returns-2)

@@ -22,11 +22,4 @@ returns c = let t = c .before .before .before .before .before .before .before .b
 
 pub make-three-spec : {M : Type 1} → statement M
 make-three-spec =
-    tie.close
-    (tie.spec
-    empty-slots-requires
-    agreeing-requires
-    hints-of-requires
-    play-all-requires
-    (λ c. search needs)
-    returns)
+    tie.close (tie.spec empty-slots-requires agreeing-requires hints-of-requires play-all-requires (λ c. search needs) returns)

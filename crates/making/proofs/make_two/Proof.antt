@@ -26,15 +26,5 @@ returns-2 c =
 pub make-two-spec : {M : Type 1} → statement M
 make-two-spec =
     tie.close
-    (tie.spec
-    (λ c. search needs)
-    (λ c. search needs)
-    (λ c. search needs)
-    (λ c. search needs)
-    put-shift-requires
-    (λ c. search needs)
-    returns
-    (λ c. search needs)
-    put-shift-requires-2
-    (λ c. search needs)
-    returns-2)
+    (tie.spec (λ c. search needs) (λ c. search needs) (λ c. search needs) (λ c. search needs) put-shift-requires (λ c. search needs) returns
+    (λ c. search needs) put-shift-requires-2 (λ c. search needs) returns-2)

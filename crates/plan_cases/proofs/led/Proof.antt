@@ -11,13 +11,5 @@ slice-aggregate-replay c = sym (length-take-le (c .before .before .before .args 
 pub led-spec : {M : Type 1} → statement M
 led-spec =
     tie.close
-    (tie.spec
-    (λ c. search needs)
-    slice-aggregate-replay
-    (λ c κs. search needs)
-    (λ c κs. search needs)
-    (λ c. search needs)
-    (λ c. search needs)
-    (λ c. search needs)
-    (λ c κs. search needs)
-    (λ c. search needs))
+    (tie.spec (λ c. search needs) slice-aggregate-replay (λ c κs. search needs) (λ c κs. search needs) (λ c. search needs)
+    (λ c. search needs) (λ c. search needs) (λ c κs. search needs) (λ c. search needs))

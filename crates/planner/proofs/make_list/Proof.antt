@@ -21,13 +21,5 @@ plan-pair-requires c κs =
 pub make-list-spec : {M : Type 1} → statement M
 make-list-spec =
     tie.close
-    (tie.spec
-    (λ c κs. search needs)
-    (λ c. search needs)
-    (λ c κs. search needs)
-    (λ c. search needs)
-    returns
-    (λ c. search needs)
-    plan-pair-requires
-    (λ c. search needs)
-    (λ c. search needs))
+    (tie.spec (λ c κs. search needs) (λ c. search needs) (λ c κs. search needs) (λ c. search needs) returns (λ c. search needs)
+    plan-pair-requires (λ c. search needs) (λ c. search needs))

@@ -57,16 +57,5 @@ returns-3 c =
 pub plan-pair-spec : {M : Type 1} → statement M
 plan-pair-spec =
     tie.close
-    (tie.spec
-    list-space-requires
-    (λ c κs. search needs)
-    (λ c. search needs)
-    returns
-    rule-holds-requires
-    (λ c κs. search needs)
-    (λ c. search needs)
-    returns-2
-    make-requires
-    (λ c κs. search needs)
-    (λ c. search needs)
-    returns-3)
+    (tie.spec list-space-requires (λ c κs. search needs) (λ c. search needs) returns rule-holds-requires (λ c κs. search needs)
+    (λ c. search needs) returns-2 make-requires (λ c κs. search needs) (λ c. search needs) returns-3)

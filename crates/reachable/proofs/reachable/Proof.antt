@@ -27,11 +27,4 @@ returns-2 c =
 pub reachable-spec : {M : Type 1} → statement M
 reachable-spec =
     tie.close
-    (tie.spec
-    (λ c κs. search needs)
-    (λ c. search needs)
-    returns
-    (λ c. search needs)
-    rule-holds-requires
-    (λ c κs. search needs)
-    returns-2)
+    (tie.spec (λ c κs. search needs) (λ c. search needs) returns (λ c. search needs) rule-holds-requires (λ c κs. search needs) returns-2)

@@ -62,19 +62,5 @@ returns-2 c = goes-through _ _ _ _ (c .before .loop .inv .2) (c .loop-test .left
 pub play-spec : {M : Type 1} → statement M
 play-spec =
     tie.close
-    (tie.spec
-    Inv-loop
-    μ-loop
-    loop-holds
-    (λ c. search needs)
-    (λ c κs. search needs)
-    (λ c κs. search needs)
-    judge-at-requires
-    (λ c. search needs)
-    returns
-    (λ c. search needs)
-    carry-requires
-    (λ c. search needs)
-    (λ c. search needs)
-    loop-again
-    returns-2)
+    (tie.spec Inv-loop μ-loop loop-holds (λ c. search needs) (λ c κs. search needs) (λ c κs. search needs) judge-at-requires
+    (λ c. search needs) returns (λ c. search needs) carry-requires (λ c. search needs) (λ c. search needs) loop-again returns-2)

@@ -20,5 +20,4 @@ returns-2 c =
 
 pub replay-spec : {M : Type 1} → statement M
 replay-spec =
-    tie.close
-    (tie.spec (λ c κs. search needs) (λ c. search needs) returns (λ c. search needs) play-requires returns-2)
+    tie.close (tie.spec (λ c κs. search needs) (λ c. search needs) returns (λ c. search needs) play-requires returns-2)

@@ -36,13 +36,4 @@ returns-2 c = λ y p o. c .before .before .loop .inv y p (omega (arith, o .usabl
 pub outside-from-spec : {M : Type 1} → statement M
 outside-from-spec =
     tie.close
-    (tie.spec
-    Inv-loop
-    μ-loop
-    loop-holds
-    (λ c κs. search needs)
-    returns
-    (λ c. search needs)
-    (λ c. search needs)
-    loop-again
-    returns-2)
+    (tie.spec Inv-loop μ-loop loop-holds (λ c κs. search needs) returns (λ c. search needs) (λ c. search needs) loop-again returns-2)

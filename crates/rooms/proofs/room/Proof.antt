@@ -12,5 +12,4 @@ returns c = let t = c .before .before .before in omega (arith, t .pre .0 .within
 
 pub room-spec : {M : Type 1} → statement M
 room-spec =
-    tie.close
-    (tie.spec (λ c κs. search needs) (λ c. search needs) (λ c. search needs) sub-result (λ c. search needs) returns)
+    tie.close (tie.spec (λ c κs. search needs) (λ c. search needs) (λ c. search needs) sub-result (λ c. search needs) returns)

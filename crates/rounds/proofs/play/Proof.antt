@@ -20,12 +20,5 @@ returns-2 c = let t = c .before .before .before .before .before .before .before 
 pub play-spec : {M : Type 1} → statement M
 play-spec =
     tie.close
-    (tie.spec
-    serve-requires
-    (λ c. search needs)
-    restore-requires
-    (λ c. search needs)
-    returns
-    (λ c. search needs)
-    (λ c. search needs)
+    (tie.spec serve-requires (λ c. search needs) restore-requires (λ c. search needs) returns (λ c. search needs) (λ c. search needs)
     returns-2)

@@ -39,15 +39,4 @@ returns c = all-passed (c .before .before .before .loop .inv) (c .before .finish
 
 pub play-all-spec : {M : Type 1} → statement M
 play-all-spec =
-    tie.close
-    (tie.spec
-    Inv-loop
-    μ-loop
-    loop-holds
-    finished-requires
-    choose-requires
-    play-requires
-    loop-less
-    loop-again
-    same-length
-    returns)
+    tie.close (tie.spec Inv-loop μ-loop loop-holds finished-requires choose-requires play-requires loop-less loop-again same-length returns)

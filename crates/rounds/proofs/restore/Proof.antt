@@ -26,14 +26,5 @@ returns-2 c = let t = c .before .before .before .before .before .before .before 
 pub restore-spec : {M : Type 1} → statement M
 restore-spec =
     tie.close
-    (tie.spec
-    next-requires
-    seek-requires
-    (λ c. search needs)
-    (λ c. search needs)
-    add-row
-    (λ c. search needs)
-    returns
-    place-requires
-    (λ c. search needs)
-    returns-2)
+    (tie.spec next-requires seek-requires (λ c. search needs) (λ c. search needs) add-row (λ c. search needs) returns place-requires
+    (λ c. search needs) returns-2)

@@ -39,5 +39,4 @@ returns-2 c =
 
 pub rule-holds-spec : {M : Type 1} → statement M
 rule-holds-spec =
-    tie.close
-    (tie.spec same-reading-requires returns empty-slots-requires same-floors-requires returns-2)
+    tie.close (tie.spec same-reading-requires returns empty-slots-requires same-floors-requires returns-2)

@@ -45,15 +45,5 @@ returns-2 c = holds λ y h. c .before .loop .inv .2 y (omega (arith, c .loop-tes
 pub same-floors-spec : {M : Type 1} → statement M
 same-floors-spec =
     tie.close
-    (tie.spec
-    Inv-loop
-    μ-loop
-    loop-holds
-    (λ c κs. search needs)
-    (λ c κs. search needs)
-    same-rows-requires
-    returns
-    (λ c. search needs)
-    (λ c. search needs)
-    loop-again
-    returns-2)
+    (tie.spec Inv-loop μ-loop loop-holds (λ c κs. search needs) (λ c κs. search needs) same-rows-requires returns (λ c. search needs)
+    (λ c. search needs) loop-again returns-2)

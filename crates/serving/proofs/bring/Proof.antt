@@ -15,5 +15,4 @@ returns c = let t = c .before .before .before .before .before .before .before .b
 
 pub bring-spec : {M : Type 1} → statement M
 bring-spec =
-    tie.close
-    (tie.spec make-room-requires place-requires (λ c. search needs) (λ c. search needs) (λ c. search needs) returns)
+    tie.close (tie.spec make-room-requires place-requires (λ c. search needs) (λ c. search needs) (λ c. search needs) returns)

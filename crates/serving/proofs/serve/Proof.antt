@@ -30,16 +30,5 @@ returns-3 c = let t = c .before .before .before .before .before .before .before 
 pub serve-spec : {M : Type 1} → statement M
 serve-spec =
     tie.close
-    (tie.spec
-    (λ c. search needs)
-    (λ c. search needs)
-    add-row
-    (λ c. search needs)
-    returns
-    leave-requires
-    bring-requires
-    (λ c. search needs)
-    returns-2
-    bring-requires-2
-    (λ c. search needs)
-    returns-3)
+    (tie.spec (λ c. search needs) (λ c. search needs) add-row (λ c. search needs) returns leave-requires bring-requires (λ c. search needs)
+    returns-2 bring-requires-2 (λ c. search needs) returns-3)

@@ -27,12 +27,4 @@ returns c = ap (λ (k : ℕ). spaceFor k (c .before .args .n)) (c .deepest-of .e
 
 pub list-space-spec : {M : Type 1} → statement M
 list-space-spec =
-    tie.close
-    (tie.spec
-    (λ c κs. search needs)
-    (λ c. search needs)
-    (λ c. search needs)
-    mul-result-2
-    (λ c. search needs)
-    add-result
-    returns)
+    tie.close (tie.spec (λ c κs. search needs) (λ c. search needs) (λ c. search needs) mul-result-2 (λ c. search needs) add-result returns)

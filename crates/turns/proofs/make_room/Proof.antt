@@ -31,13 +31,5 @@ returns-3 c = let t = c .before .before .before .before .before .before .before 
 pub make-room-spec : {M : Type 1} → statement M
 make-room-spec =
     tie.close
-    (tie.spec
-    look-ahead-requires
-    returns
-    add-if2
-    returns-2
-    (λ c κs. search needs)
-    lend-requires
-    put-lift-requires
-    (λ c. search needs)
+    (tie.spec look-ahead-requires returns add-if2 returns-2 (λ c κs. search needs) lend-requires put-lift-requires (λ c. search needs)
     returns-3)

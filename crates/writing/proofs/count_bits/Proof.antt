@@ -28,16 +28,6 @@ returns c = let e : c .before .loop .x ≡ c .before .before .args .shafts = ome
 pub count-bits-spec : {M : Type 1} → statement M
 count-bits-spec =
     tie.close
-    (tie.spec
-    Inv-loop
-    μ-loop
-    (λ c. (omega arith, none-taken (c .args .heights .now)))
-    (λ c. search needs)
-    (λ c κs. search needs)
-    (λ c. search needs)
-    (λ c. let b : Fits w8 (c .height-at .result) = search needs in omega arith)
-    (λ c. let b : Fits w8 (c .height-at .result) = search needs in omega arith)
-    (λ c. search needs)
-    (λ c. search needs)
-    loop-again
-    returns)
+    (tie.spec Inv-loop μ-loop (λ c. (omega arith, none-taken (c .args .heights .now))) (λ c. search needs) (λ c κs. search needs)
+    (λ c. search needs) (λ c. let b : Fits w8 (c .height-at .result) = search needs in omega arith)
+    (λ c. let b : Fits w8 (c .height-at .result) = search needs in omega arith) (λ c. search needs) (λ c. search needs) loop-again returns)

@@ -27,14 +27,5 @@ returns c =
 pub write-head-spec : {M : Type 1} → statement M
 write-head-spec =
     tie.close
-    (tie.spec
-    (λ c κs. search needs)
-    (λ c κs. rw (c .before .start .ensures) (omega arith))
-    (λ c. search needs)
-    (λ c. search needs)
-    push-requires-2
-    (λ c. search needs)
-    (λ c. search needs)
-    push-requires-3
-    (λ c. search needs)
-    returns)
+    (tie.spec (λ c κs. search needs) (λ c κs. rw (c .before .start .ensures) (omega arith)) (λ c. search needs) (λ c. search needs)
+    push-requires-2 (λ c. search needs) (λ c. search needs) push-requires-3 (λ c. search needs) returns)

@@ -38,17 +38,6 @@ returns c = let e : c .before .loop .k ≡ c .before .before .before .args .rows
 pub write-rows-spec : {M : Type 1} → statement M
 write-rows-spec =
     tie.close
-    (tie.spec
-    Inv-loop
-    μ-loop
-    (λ c. (omega arith, no-rows cassetteWidth _ _ _ _ (c .before .pre .0 .2)))
-    (λ c. search needs)
-    (λ c. search needs)
-    (λ c κs. search needs)
-    (λ c. search needs)
-    push-requires
-    (λ c. search needs)
-    (λ c. search needs)
-    loop-again
-    (λ c. c .before .loop .inv .1 .same-length)
-    returns)
+    (tie.spec Inv-loop μ-loop (λ c. (omega arith, no-rows cassetteWidth _ _ _ _ (c .before .pre .0 .2))) (λ c. search needs)
+    (λ c. search needs) (λ c κs. search needs) (λ c. search needs) push-requires (λ c. search needs) (λ c. search needs) loop-again
+    (λ c. c .before .loop .inv .1 .same-length) returns)

@@ -23,11 +23,4 @@ returns c = let p = c .before .before .before .before .before .before in shaft-w
 pub write-shaft-spec : {M : Type 1} → statement M
 write-shaft-spec =
     tie.close
-    (tie.spec
-    (λ c κs. search needs)
-    (λ c. search needs)
-    push-requires
-    (λ c. search needs)
-    write-rows-requires
-    (λ c. search needs)
-    returns)
+    (tie.spec (λ c κs. search needs) (λ c. search needs) push-requires (λ c. search needs) write-rows-requires (λ c. search needs) returns)

@@ -33,13 +33,5 @@ returns c = let e : c .before .loop .x ≡ c .before .before .before .args .shaf
 pub write-shafts-spec : {M : Type 1} → statement M
 write-shafts-spec =
     tie.close
-    (tie.spec
-    Inv-loop
-    μ-loop
-    (λ c. (omega arith, no-shafts _ _ _ _ (c .before .pre .1 .0)))
-    write-shaft-requires
-    (λ c. search needs)
-    (λ c. search needs)
-    loop-again
-    (λ c. c .before .loop .inv .1 .same-length)
-    returns)
+    (tie.spec Inv-loop μ-loop (λ c. (omega arith, no-shafts _ _ _ _ (c .before .pre .1 .0))) write-shaft-requires (λ c. search needs)
+    (λ c. search needs) loop-again (λ c. c .before .loop .inv .1 .same-length) returns)

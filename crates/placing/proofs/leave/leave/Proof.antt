@@ -50,20 +50,5 @@ returns c = let t = c .before .before .before .before .before .before .before .b
 pub leave-spec : {M : Type 1} → statement M
 leave-spec =
     tie.close
-    (tie.spec
-    Inv-loop
-    μ-loop
-    (λ c. search needs)
-    loop-holds
-    element-copy-out-if1
-    aside-requires
-    put-lift-requires
-    loop-less
-    loop-again
-    aside-requires-2
-    (λ c. search needs)
-    element-copy-out-high
-    put-lift-requires-2
-    add-t30
-    (λ c. search needs)
-    returns)
+    (tie.spec Inv-loop μ-loop (λ c. search needs) loop-holds element-copy-out-if1 aside-requires put-lift-requires loop-less loop-again
+    aside-requires-2 (λ c. search needs) element-copy-out-high put-lift-requires-2 add-t30 (λ c. search needs) returns)

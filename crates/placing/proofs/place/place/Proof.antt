@@ -55,20 +55,5 @@ returns c = let t = c .before .before .before .before .before .before .before .b
 pub place-spec : {M : Type 1} → statement M
 place-spec =
     tie.close
-    (tie.spec
-    Inv-loop
-    μ-loop
-    look-ahead-requires
-    loop-holds
-    add-if1
-    next-lift-requires
-    (λ c. search needs)
-    element-copy-out-high
-    put-lift-requires
-    follow-requires
-    look-ahead-requires-2
-    loop-less
-    loop-again
-    put-lift-requires-2
-    (λ c. search needs)
-    returns)
+    (tie.spec Inv-loop μ-loop look-ahead-requires loop-holds add-if1 next-lift-requires (λ c. search needs) element-copy-out-high
+    put-lift-requires follow-requires look-ahead-requires-2 loop-less loop-again put-lift-requires-2 (λ c. search needs) returns)

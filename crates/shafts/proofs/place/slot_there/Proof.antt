@@ -33,5 +33,4 @@ returns-5 c =
 
 pub slot-there-spec : {M : Type 1} → statement M
 slot-there-spec =
-    tie.close
-    (tie.spec returns returns-2 returns-3 (λ c. search needs) (λ c κs. search needs) returns-4 returns-5)
+    tie.close (tie.spec returns returns-2 returns-3 (λ c. search needs) (λ c κs. search needs) returns-4 returns-5)
