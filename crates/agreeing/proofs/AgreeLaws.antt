@@ -1,13 +1,14 @@
 -- Rows that agree from the bottom: of one shaft, where the comparing stopped, and of the shafts that are compared already.
 use mathlib.Core.List.{List, []}
-use mathlib.Core.Path.{_≡_, refl, _∙_}
-use Prim.Native.Nat.{ℕ, zero, suc, _+_, _*_, _≤_, _<_}
+use mathlib.Core.Path.{_≡_, _∙_}
+use Prim.Native.Nat.{ℕ, _+_, _*_, _≤_, _<_}
 use native.Mathlib.Decide.{decLt}
 use native.Mathlib.Omega.{arith}
 use lib.ListN.{length, getD, set, replicate, length-set, length-replicate}
 use lib.Seq.{getD-set-same, getD-set-other}
 use Rattle.store.proofs.Rows.{same-rows, rows-same}
 use Rattle.store.specs.Slots.{held}
+use Rattle.marks.proofs.MarkLaws.{zeros}
 use Rattle.shafts.specs.Rows.{rowsDown}
 use Rattle.rooms.specs.declared.Frame.{Frame}
 use Rattle.lifts.specs.Lifting.{heightIn, shown}
@@ -67,11 +68,6 @@ pub record ComparedTo (heights slots goal-heights goal-slots done : List ℕ) (x
   pub sized : length done ≡ 16
   pub compared : (y : ℕ) → y < x → RowsIs heights slots goal-heights goal-slots y (heightIn done y)
   pub others : (y : ℕ) → x ≤ y → heightIn done y ≡ 0
-
-zeros : (n y : ℕ) → getD {A = ℕ} (replicate n 0) y 0 ≡ 0
-zeros zero y = refl
-zeros (suc n) zero = refl
-zeros (suc n) (suc y) = zeros n y
 
 module _ (heights slots goal-heights goal-slots : List ℕ) where
   pub none-compared : ComparedTo heights slots goal-heights goal-slots (replicate 16 0) 0

@@ -4,7 +4,7 @@ use borrow.Author.Tests.{eq-eqb, ne-eqb}
 use mathlib.Core.List.{List}
 use mathlib.Core.Path.{_≡_, refl, sym, ap, _∙_, subst}
 use Prim.Native.Nat.{ℕ, zero, suc, _-_, _<_}
-use native.Mathlib.Decide.{ℕ-discrete, decLt}
+use native.Mathlib.Decide.{ℕ-discrete}
 use native.Mathlib.Omega.{arith}
 use Rattle.stacks.specs.Count.{one, count, occurrences, empties, lowest}
 use Rattle.stacks.proofs.Floors.{floors-kept}
@@ -18,6 +18,7 @@ use Rattle.store.specs.Accept.{Accepted}
 use Rattle.store.specs.Lists.{Leads}
 use Rattle.store.specs.Sound.{Shaped}
 use Rattle.store.proofs.Acceptance.{accepted-sound, sound-accepted}
+use Rattle.store.proofs.Views.{holds-below}
 use Rattle.store.proofs.Played.{leads-run, leads-shaped, leads-frame}
 use Rattle.reach.proofs.Agree.{shaped-within, occurrences-agree, total-agrees}
 
@@ -59,10 +60,6 @@ module _ (s : Store) (c x : ℕ) where
         ap one (ne-eqb c (slot s x (suc n)) (λ e. f n (omega arith) (sym e))),
         none-counted n (λ k h. f k (omega arith)),
       )
-
--- a shaft that holds something is below m
-holds-below : (s : Store) (x : ℕ) → Shaped s → 0 < height s x → x < s .m
-holds-below s x p h = elim (decLt x (s .m)) [ yes i ↦ i | no i ↦ absurd (omega (arith, p .none-beyond x (omega arith))) ]
 
 module _ {s t : Store} {bs : List ℕ} (p : Shaped s) (l : Leads s bs t) where
   pub leads-no-gap : NoGap s → NoGap t
