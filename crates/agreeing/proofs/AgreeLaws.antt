@@ -9,7 +9,7 @@ use lib.Seq.{getD-set-same, getD-set-other}
 use Rattle.store.proofs.Rows.{same-rows, rows-same}
 use Rattle.store.specs.Slots.{held}
 use Rattle.marks.proofs.MarkLaws.{zeros}
-use Rattle.shafts.specs.Rows.{rowsDown}
+use Rattle.rows.specs.Rows.{rowsDown}
 use Rattle.rooms.specs.declared.Frame.{Frame}
 use Rattle.lifts.specs.Lifting.{heightIn, shown}
 use Rattle.agreeing.specs.Agreeing.{AgreeIs, AgreeingIs}

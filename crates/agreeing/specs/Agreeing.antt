@@ -4,7 +4,7 @@ use mathlib.Core.Path.{_≡_}
 use Prim.Native.Nat.{ℕ, suc, _≤_}
 use lib.ListN.{length}
 use Rattle.stacks.specs.Run.{Usable}
-use Rattle.shafts.specs.Rows.{rowsDown}
+use Rattle.rows.specs.Rows.{rowsDown}
 use Rattle.rooms.specs.declared.Frame.{Frame}
 use Rattle.lifts.specs.Lifting.{heightIn, shown}
 

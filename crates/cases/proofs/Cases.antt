@@ -7,12 +7,12 @@ use lib.Dec.{eqb}
 use Rattle.stacks.specs.Count.{sum, greatest, count}
 use Rattle.marks.specs.Cassettes.{mayRepeat, cassetteFault}
 use Rattle.lifts.specs.Lifting.{shown, placedAt, refusalBy}
-use Rattle.shafts.specs.Rows.{rowsFault, rowsUp, rowsDown}
+use Rattle.rows.specs.Rows.{rowsFault, rowsUp, rowsDown}
 use Rattle.store.specs.Accept.{storeFault}
 use Rattle.store.specs.Lifts.{liftRefusal, lifted, liftNumber}
 use Rattle.store.specs.Lists.{Leads}
 use Rattle.replay.specs.Replaying.{replayFrom}
-use Rattle.shafts.specs.Depths.{depthBy}
+use Rattle.depths.specs.Depths.{depthBy}
 use Rattle.store.specs.Slots.{deepest, cassettesBelow, cassettes, cassetteCount, emptyCount, listSpace}
 use Rattle.marks.proofs.Faulted.{both-true}
 use Rattle.replay.proofs.Replays.{leads-replay}

@@ -12,7 +12,7 @@ use Rattle.marks.specs.Marking.{Marked}
 use Rattle.marks.specs.Taking.{takenNumber, MarksAfter, TakenIs}
 use Rattle.lifts.specs.Lifting.{mostRows}
 use Rattle.store.specs.Slots.{held}
-use Rattle.shafts.specs.Depths.{depthBy}
+use Rattle.depths.specs.Depths.{depthBy}
 use Rattle.image.specs.Image.{heightWidth, cassetteWidth}
 use Rattle.image.specs.Reading.{Reading, refused, unless, placed, takeCassette, readRows, readColumn, readShafts}
 use Rattle.fields.specs.declared.Cursor.{Cursor}

@@ -1,4 +1,5 @@
 // The shafts of an image (document 01, "The image": "for each shaft from 0 its height (5) and its cassettes from row 1 upward (8 each)"), read into lent arrays.
+use depths::depth_of;
 use fields::Cursor;
 use fields::next_field;
 use fields::stopped;
@@ -7,11 +8,10 @@ use lifts::Slots;
 use marks::Taken;
 use marks::Words;
 use marks::take;
-use shafts::depth_of;
 ghost use Prim.Native.Nat.{_≤_, _<_};
 ghost use Rattle.marks.specs.Cassettes.{numbers};
 ghost use Rattle.lifts.specs.Lifting.{mostShafts, mostRows};
-ghost use Rattle.shafts.specs.Depths.{DepthsFit};
+ghost use Rattle.depths.specs.Depths.{DepthsFit};
 ghost use Rattle.image.specs.Image.{cassetteWidth};
 ghost use Rattle.columns.specs.Columns.{CassetteRead, RowsRead, ColumnRead, ShaftsRead};
 

@@ -7,7 +7,7 @@ use native.Mathlib.Omega.{arith}
 use lib.ListN.{drop}
 use lib.Pow.{pow-pos}
 use lib.Seq.{drop-drop}
-use Rattle.shafts.proofs.InPlace.{depth-most}
+use Rattle.depths.proofs.DepthLaws.{depth-most}
 use Rattle.bits.specs.declared.Field.{Field}
 use Rattle.bits.specs.declared.Field.the-variants.{Value, Missing}
 use Rattle.bits.specs.Fields.{bitsOf, nextField}

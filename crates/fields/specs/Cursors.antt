@@ -6,7 +6,7 @@ use Prim.Native.Nat.{ℕ, _+_, _^_, _≤_, _<_}
 use lib.ListN.{length, drop}
 use Rattle.lifts.specs.Lifting.{mostShafts}
 use Rattle.store.specs.declared.Store.{Store}
-use Rattle.shafts.specs.Depths.{DepthsFit}
+use Rattle.depths.specs.Depths.{DepthsFit}
 use Rattle.bits.specs.Fields.{bitsOf}
 use Rattle.image.specs.Reading.{Reading, emptyStore, unless, next, finish, readForm, readSize, readBody, readImage}
 use Rattle.fields.specs.declared.Cursor.{Cursor}

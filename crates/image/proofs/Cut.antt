@@ -8,7 +8,7 @@ use lib.ListN.{length, getD, take, set, replicate, length-set, List·getD-append
 use lib.Seq.{take-suc, take-all, take-take, take-append-le, take-set-le, length-take-le, set-at, append-snoc, getD-append-add, getD-take, getD-set-same, set-getD}
 use Rattle.lifts.specs.Lifting.{mostShafts, slotCount, shown}
 use Rattle.store.specs.declared.Store.{Store}
-use Rattle.shafts.specs.Rows.{rowsUp}
+use Rattle.rows.specs.Rows.{rowsUp}
 
 abbrev pub cutAt : ℕ → ℕ → List ℕ → List ℕ
 cutAt n p l = take p l ++ replicate (n - p) 0

@@ -10,7 +10,7 @@ use lib.ListN.{length, length-append}
 use Rattle.bits.proofs.Widths.{length-bits, length-packed}
 use Rattle.lifts.specs.Lifting.{heightIn}
 use Rattle.store.specs.declared.Store.{Store}
-use Rattle.shafts.specs.Rows.{rowsUp}
+use Rattle.rows.specs.Rows.{rowsUp}
 use Rattle.store.specs.Slots.{cassettesBelow, cassettes, cassetteCount}
 use Rattle.store.specs.Accept.{Accepted}
 use Rattle.store.proofs.Acceptance.{accepted-sound}

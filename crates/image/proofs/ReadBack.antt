@@ -13,10 +13,10 @@ use Rattle.marks.proofs.Faulted.{first-none}
 use Rattle.lifts.specs.Lifting.{mostShafts, mostRows, slotCount, shown}
 use Rattle.store.specs.declared.Store.{Store}
 use Rattle.store.specs.Slots.{held, depth, height, slot, upward, cassettesBelow}
-use Rattle.shafts.specs.Rows.{rowsUp, rowsFault}
+use Rattle.rows.specs.Rows.{rowsUp, rowsFault}
 use Rattle.store.specs.Accept.{shaftFault, shaftsFault}
 use Rattle.store.specs.Sound.{Shaped}
-use Rattle.shafts.proofs.Walk.{row-none}
+use Rattle.rows.proofs.Walk.{row-none}
 use Rattle.store.proofs.Walk.{not-too-high}
 use Rattle.image.specs.Image.{heightWidth, cassetteWidth, columnBits, columnsBits, shaftBits, shaftsBits}
 use Rattle.image.specs.Reading.{Rest, takeCassette, readRow, readRows, readColumn, readShaft, readShafts}

@@ -23,7 +23,7 @@ use Rattle.store.specs.Slots.{held, height, slot, cassettesBelow, cassettes, ca
 use Rattle.store.specs.Accept.{allShown, shaftsFault, Accepted}
 use Rattle.store.specs.Sound.{Shaped}
 use Rattle.store.proofs.Acceptance.{accepted-sound}
-use Rattle.shafts.proofs.InPlace.{depth-some, depth-most, depth-least, rows-most}
+use Rattle.depths.proofs.DepthLaws.{depth-some, depth-most, depth-least, rows-most}
 use Rattle.store.proofs.InPlace.{shaped-in-place}
 use Rattle.store.proofs.Once.{once-walks}
 use Rattle.store.proofs.Typed.{shown-at}

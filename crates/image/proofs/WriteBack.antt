@@ -16,10 +16,10 @@ use Rattle.marks.proofs.Faulted.{given-none}
 use Rattle.lifts.specs.Lifting.{mostShafts, mostRows, slotCount, shown}
 use Rattle.store.specs.declared.Store.{Store}
 use Rattle.store.specs.Slots.{held, depth, height, slot, upward, cassettesBelow}
-use Rattle.shafts.specs.Rows.{rowsUp, rowsFault}
+use Rattle.rows.specs.Rows.{rowsUp, rowsFault}
 use Rattle.store.specs.Accept.{shaftsFault}
 use Rattle.store.proofs.Typed.{numbered-set}
-use Rattle.shafts.proofs.Walk.{row-passed}
+use Rattle.rows.proofs.Walk.{row-passed}
 use Rattle.store.proofs.Walk.{shaft-passed, by-rows}
 use Rattle.image.specs.Image.{heightWidth, cassetteWidth, columnBits, columnsBits, shaftBits, shaftsBits}
 use Rattle.image.specs.Reading.{Rest, raised, takeCassette, readRow, readRows, readColumn, readShaft, readShafts}

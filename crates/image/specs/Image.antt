@@ -6,7 +6,7 @@ use lib.ListN.{length}
 use Rattle.bits.specs.Fields.{bits, packed, bytesOf, byteCount}
 use Rattle.lifts.specs.Lifting.{heightIn}
 use Rattle.store.specs.declared.Store.{Store}
-use Rattle.shafts.specs.Rows.{rowsUp}
+use Rattle.rows.specs.Rows.{rowsUp}
 
 -- how many bits each field has: the form, m − 1 and h − 1, a height, a cassette
 abbrev pub formWidth : ℕ

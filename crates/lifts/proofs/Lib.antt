@@ -1,4 +1,3 @@
-pub mod Halves
 pub mod Judging
 pub mod Moving
 pub mod Numbered

@@ -1,7 +1,5 @@
 // One lift (document 000, Definition 3.2): "takes the top cassette of one shaft and sets it on top of another". Whether it is allowed,
-// the lift made in place, and its byte.
-pub mod byte;
-
+// and the lift made in place.
 use marks::Cassette;
 ghost use mathlib.Core.Path.{_≡_};
 ghost use Prim.Native.Nat.{_<_};

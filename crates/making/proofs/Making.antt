@@ -14,8 +14,8 @@ use Rattle.stacks.proofs.Rounds.{within-bound}
 use Rattle.stacks.proofs.Floors.{filled-and-empty}
 use Rattle.store.specs.declared.Store.{Store}
 use Rattle.store.specs.Slots.{depth, deepest, height, stack, cassetteCount, emptyCount, listSpace}
-use Rattle.shafts.specs.Depths.{DepthsFit}
-use Rattle.shafts.specs.Rows.{rowsDown}
+use Rattle.depths.specs.Depths.{DepthsFit}
+use Rattle.rows.specs.Rows.{rowsDown}
 use Rattle.store.specs.Sound.{Shaped, Sound}
 use Rattle.store.proofs.Acceptance.{accepted-sound}
 use Rattle.store.proofs.Rows.{stack-length}

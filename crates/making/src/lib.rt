@@ -1,5 +1,6 @@
 // The list made, for two stores that can be compared and a goal that can be reached.
 use agreeing::agreeing;
+use depths::empty_slots;
 use lifts::Shaft;
 use lifts::Slots;
 use lifts::slot_at;
@@ -7,7 +8,6 @@ use moves::Hints;
 use moves::put_shift;
 use rooms::Frame;
 use rounds::play_all;
-use shafts::empty_slots;
 use store::Store;
 ghost use mathlib.Core.Path.{_≡_};
 ghost use Prim.Native.Nat.{_≤_, _<_};

@@ -1,8 +1,8 @@
 // Lists of lifts written as bytes: one lift made in place and written, and a lift many times over.
+use lift_bytes::pack;
 use lifts::Heights;
 use lifts::Shaft;
 use lifts::Slots;
-use lifts::byte::pack;
 use lifts::carry;
 ghost use mathlib.Core.Path.{_≡_};
 ghost use Prim.Native.Nat.{_+_, _≤_, _<_};

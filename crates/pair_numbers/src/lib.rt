@@ -2,12 +2,12 @@
 use numbers::fault_number;
 use pairs::Pair;
 use pairs::PairFault;
-use planner::PlanAnswer;
+use plans::PlanAnswer;
 use reachable::Reach;
 ghost use mathlib.Core.Path.{_≡_};
 ghost use Rattle.pairs.specs.Numbers.{pairFaultNumber, pairNumber};
 ghost use Rattle.reachable.specs.Numbers.{reachNumber};
-ghost use Rattle.planner.specs.Numbers.{planNumber};
+ghost use Rattle.plans.specs.Numbers.{planNumber};
 
 pub fn pair_fault_number(f: PairFault) -> u8
     ensures { λ r. ⌜ r ≡ pairFaultNumber f ⌝ }

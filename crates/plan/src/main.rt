@@ -2,13 +2,13 @@
 // there is none.
 use image::Read;
 use libc::STDOUT_FILENO;
-use lifts::byte::entered_of;
-use lifts::byte::left_of;
+use lift_bytes::entered_of;
+use lift_bytes::left_of;
 use numbers::read_number;
 use pair_numbers::plan_number;
-use planner::PlanAnswer;
-use planner::Planned;
 use planner::make_list;
+use plans::PlanAnswer;
+use plans::Planned;
 use reading::read;
 use store::Store;
 ghost use mathlib.Core.Path.{_≡_};

@@ -11,7 +11,7 @@ use Rattle.stacks.specs.TwoStackReading.{twoStackReading}
 use Rattle.stacks.proofs.Counts.{count-append}
 use Rattle.store.specs.declared.Store.{Store}
 use Rattle.store.specs.Slots.{depth, height, slot, upward, downward, stack, cassettesBelow, cassettes, cassetteCount, emptyCount}
-use Rattle.shafts.specs.Rows.{rowsUp, rowsDown}
+use Rattle.rows.specs.Rows.{rowsUp, rowsDown}
 use Rattle.store.specs.Sound.{Shaped}
 use Rattle.store.proofs.Rows.{stack-length}
 use Rattle.reach.specs.Rules.{twoShaftReading, floor}

@@ -11,9 +11,9 @@ use Rattle.stacks.proofs.Floors.{floors-kept}
 use Rattle.stacks.proofs.Kept.{occurrences-kept, total-kept}
 use Rattle.stacks.proofs.Sums.{term-le-sum, some-positive}
 use Rattle.store.specs.declared.Store.{Store}
-use Rattle.shafts.specs.Depths.{depthBy}
+use Rattle.depths.specs.Depths.{depthBy}
 use Rattle.store.specs.Slots.{depth, SameFrame, height, slot, downward, stack, cassettes, cassetteCount}
-use Rattle.shafts.specs.Rows.{rowsDown}
+use Rattle.rows.specs.Rows.{rowsDown}
 use Rattle.store.specs.Accept.{Accepted}
 use Rattle.store.specs.Lists.{Leads}
 use Rattle.store.specs.Sound.{Shaped}

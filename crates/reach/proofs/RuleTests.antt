@@ -8,10 +8,10 @@ use Prim.Native.Nat.{ℕ, zero, suc}
 use lib.Dec.{eqb}
 use Rattle.store.specs.declared.Store.{Store}
 use Rattle.store.specs.Slots.{upward}
-use Rattle.shafts.specs.InPlace.{allBelow}
+use Rattle.in_place.specs.InPlace.{allBelow}
 use Rattle.store.specs.Lists.{Reachable}
 use Rattle.marks.proofs.Faulted.{both-true}
-use Rattle.shafts.proofs.AllBelow.{all-true, all-of}
+use Rattle.in_place.proofs.AllBelow.{all-true, all-of}
 use Rattle.stacks.specs.Deciding.{Decides}
 use Rattle.reach.specs.Pairs.{Comparable}
 use Rattle.reach.specs.Rules.{twoShaftReading, floor, RuleFor, Rule}

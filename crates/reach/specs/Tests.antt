@@ -5,7 +5,7 @@ use Prim.Native.Nat.{ℕ, zero, suc}
 use lib.Dec.{eqb}
 use Rattle.store.specs.declared.Store.{Store}
 use Rattle.store.specs.Slots.{upward}
-use Rattle.shafts.specs.InPlace.{allBelow}
+use Rattle.in_place.specs.InPlace.{allBelow}
 use Rattle.reach.specs.Pairs.{sameFrame}
 use Rattle.reach.specs.Rules.{twoShaftReading, floor}
 

@@ -15,7 +15,7 @@ ghost use mathlib.Core.Path.{_≡_};
 ghost use Prim.Native.Nat.{_≤_};
 ghost use Rattle.lifts.specs.Lifting.{mostShafts};
 ghost use Rattle.store.specs.Slots.{held};
-ghost use Rattle.shafts.specs.Depths.{DepthsFit};
+ghost use Rattle.depths.specs.Depths.{DepthsFit};
 ghost use Rattle.image.specs.Numbers.{readNumber};
 ghost use Rattle.image.specs.Promises.{ReadIs};
 ghost use Rattle.image.specs.Reading.{readImage};

@@ -1,15 +1,15 @@
 // The replay of a list of lifts (document 01, "Which comes first"): run through, or stopped at the first lift that is refused.
+use depths::depth_of;
+use lift_bytes::entered_of;
+use lift_bytes::left_of;
 use lifts::Heights;
 use lifts::Judged;
 use lifts::Refusal;
 use lifts::Shaft;
 use lifts::Slots;
-use lifts::byte::entered_of;
-use lifts::byte::left_of;
 use lifts::carry;
 use lifts::height_at;
 use lifts::judge;
-use shafts::depth_of;
 use store::Fault;
 use store::Store;
 use store::Verdict;
@@ -17,7 +17,7 @@ ghost use Prim.Native.Nat.{_<_};
 ghost use Rattle.lifts.specs.Lifting.{mostShafts, heightIn, refusalBy};
 ghost use Rattle.lifts.specs.Numbers.{Only, judgedNumber};
 ghost use Rattle.store.specs.Slots.{held};
-ghost use Rattle.shafts.specs.Depths.{depthBy};
+ghost use Rattle.depths.specs.Depths.{depthBy};
 ghost use Rattle.store.specs.Sound.{Shaped};
 ghost use Rattle.replay.specs.Promises.{ReplayIs};
 ghost use Rattle.replay.specs.Replaying.{replayFrom, replay};

@@ -13,7 +13,7 @@ use Rattle.stacks.proofs.RoundLaws.{Legal}
 use Rattle.stacks.proofs.Sums.{sum-le-outside}
 use Rattle.store.specs.declared.Store.{Store}
 use Rattle.store.specs.Slots.{depth, height, slot, downward, stack}
-use Rattle.shafts.specs.Rows.{rowsDown}
+use Rattle.rows.specs.Rows.{rowsDown}
 use Rattle.store.specs.Sound.{Shaped}
 use Rattle.store.specs.Lifts.{Allowed}
 use Rattle.store.proofs.Rows.{stack-length}

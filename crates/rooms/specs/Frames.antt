@@ -6,7 +6,7 @@ use Rattle.stacks.specs.Count.{sum, total}
 use Rattle.lifts.specs.Lifting.{mostShafts, mostRows, heightIn}
 use Rattle.store.specs.declared.Store.{Store}
 use Rattle.store.specs.Slots.{held, stack}
-use Rattle.shafts.specs.Depths.{depthBy}
+use Rattle.depths.specs.Depths.{depthBy}
 use Rattle.store.specs.Sound.{Shaped}
 use Rattle.rooms.specs.declared.Frame.{Frame}
 

@@ -1,8 +1,8 @@
 // A store that is lent as its arrays with its frame apart: the shafts that lifts may use, and where there is room.
+use depths::depth_of;
 use lifts::Heights;
 use lifts::Row;
 use lifts::Shaft;
-use shafts::depth_of;
 ghost use mathlib.Core.Path.{_≡_};
 ghost use Prim.Native.Nat.{_+_};
 ghost use lib.Dec.{ltb};

@@ -10,7 +10,7 @@ use Rattle.lifts.specs.Lifting.{shown}
 use Rattle.stacks.specs.TwoStackReading.{twoStackReading}
 use Rattle.store.specs.declared.Store.{Store}
 use Rattle.store.specs.Slots.{held, height, slot, upward, downward, stack}
-use Rattle.shafts.specs.Rows.{rowsDown, rowsUp}
+use Rattle.rows.specs.Rows.{rowsDown, rowsUp}
 use Rattle.store.proofs.Rows.{stack-length, same-rows, rows-same}
 use Rattle.reach.specs.Rules.{twoShaftReading}
 use Rattle.reach.proofs.Agree.{upward-reversed, reading-agrees}

@@ -1,9 +1,9 @@
 // The rules of document 01, "Which goals can be reached", as tests of two stores that can be compared.
+use depths::depth_of;
+use depths::empty_slots;
 use lifts::Slots;
 use lifts::slot_at;
 use marks::Cassette;
-use shafts::depth_of;
-use shafts::empty_slots;
 use store::Store;
 ghost use mathlib.Core.Path.{_≡_};
 ghost use Prim.Native.Nat.{ℕ, _+_, _-_, _≤_, _<_};
@@ -11,8 +11,8 @@ ghost use lib.ListN.{getD};
 ghost use Rattle.stacks.specs.Deciding.{Decides};
 ghost use Rattle.lifts.specs.Lifting.{mostShafts, mostRows};
 ghost use Rattle.store.specs.Slots.{height, cassetteCount};
-ghost use Rattle.shafts.specs.Rows.{rowsUp};
-ghost use Rattle.shafts.specs.Depths.{depthBy, DepthsFit};
+ghost use Rattle.rows.specs.Rows.{rowsUp};
+ghost use Rattle.depths.specs.Depths.{depthBy, DepthsFit};
 ghost use Rattle.store.specs.Sound.{Shaped};
 ghost use Rattle.reach.specs.Pairs.{Comparable};
 ghost use Rattle.reach.specs.Rules.{twoShaftReading, Rule};

@@ -11,14 +11,14 @@ use Rattle.marks.proofs.Takes.{taken-cassette, marks-counted}
 use Rattle.store.specs.declared.Store.{Store}
 use Rattle.store.specs.Slots.{depth, height, cassettesBelow, cassettes, cassetteCount}
 use Rattle.store.specs.Accept.{inPlace, shaftsFault, storeFault, Accepted}
-use Rattle.shafts.specs.Rows.{rowsFault}
+use Rattle.rows.specs.Rows.{rowsFault}
 use Rattle.store.specs.Sound.{Shaped, Sound}
 use Rattle.store.proofs.InPlace.{shafts-in-range, rows-in-range, in-place-shaped, shaped-in-place}
 use Rattle.store.proofs.Once.{walked-once, once-walks, cassettes-below}
 use Rattle.store.proofs.Verdicts.{no-fault}
 use Rattle.store.proofs.Views.{holds-below}
 use Rattle.store.proofs.Walk.{shaft-none, not-too-high}
-use Rattle.shafts.proofs.Walk.{row-none}
+use Rattle.rows.proofs.Walk.{row-none}
 
 module _ (s : Store) where
   module _ (e : Accepted s) where

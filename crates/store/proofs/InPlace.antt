@@ -10,36 +10,32 @@ use lib.ListN.{length, getD, List·getD-eq-default}
 use Rattle.marks.specs.Cassettes.{numbers}
 use Rattle.marks.proofs.Faulted.{both-true}
 use Rattle.lifts.specs.Lifting.{mostShafts, mostRows, slotCount}
-use Rattle.shafts.proofs.InPlace.{range-true, range, depth-some, depth-most, depth-least, rows-most, height-beyond, slot-above, shaft-in-place}
+use Rattle.depths.proofs.DepthLaws.{depth-some, depth-most, depth-least, rows-most}
+use Rattle.in_place.proofs.InPlace.{range-true, range, height-beyond, slot-above, shaft-in-place}
 use Rattle.store.specs.declared.Store.{Store}
 use Rattle.store.specs.Slots.{depth, height}
-use Rattle.shafts.specs.InPlace.{inRange, frameInRange, allBelow, shaftInPlace}
+use Rattle.in_place.specs.InPlace.{inRange, frameInRange, allBelow, shaftInPlace, arraysInPlace}
 use Rattle.store.specs.Accept.{allShown, typed, inPlace}
 use Rattle.store.specs.Sound.{Shaped}
-use Rattle.shafts.proofs.AllBelow.{all-true, all-of}
+use Rattle.in_place.proofs.AllBelow.{all-true, all-of}
 use Rattle.store.proofs.Typed.{shown-at, all-shown}
 
 module _ (s : Store) where
-  pub frame-fails : frameInRange (s .m) (s .h) ≡ false → inPlace s ≡ false
+  -- where the arrays have their lengths and hold what slots may show, the frame and the shafts decide
+  pub by-arrays : length (s .heights) ≡ mostShafts → length (s .slots) ≡ slotCount → ((i : ℕ) → getD (s .slots) i 0 < numbers)
+      → inPlace s ≡ arraysInPlace (s .m) (s .h) (s .heights) (s .slots)
   unfolding inPlace
-  frame-fails e = simp e
-
-  -- where the frame is in range, and the arrays have their lengths and hold what slots may show, the shafts decide
-  pub by-shafts : frameInRange (s .m) (s .h) ≡ true → length (s .heights) ≡ mostShafts → length (s .slots) ≡ slotCount → ((i : ℕ) → getD (s .slots) i 0 < numbers)
-      → inPlace s ≡ allBelow mostShafts (shaftInPlace (s .m) (s .heights) (s .slots))
-  unfolding inPlace
-  by-shafts f a b c =
-      simp (f, eq-eqb (length (s .heights)) mostShafts a, eq-eqb (length (s .slots)) slotCount b, all-shown (s .slots) c)
+  by-arrays a b c = simp (eq-eqb (length (s .heights)) mostShafts a, eq-eqb (length (s .slots)) slotCount b, all-shown (s .slots) c)
 
   -- what `inPlace` says of a store
   module _ (e : inPlace s ≡ true) where
     parts : (inRange (s .m) ≡ true) × (inRange (s .h) ≡ true) × (typed s ≡ true) × (allBelow mostShafts (shaftInPlace (s .m) (s .heights) (s .slots)) ≡ true)
     unfolding inPlace
     parts =
-        let p = both-true _ (allBelow mostShafts (shaftInPlace (s .m) (s .heights) (s .slots))) e in
-        let q = both-true _ (typed s) (p .0) in
+        let p = both-true (typed s) _ e in
+        let q = both-true (frameInRange (s .m) (s .h)) _ (p .1) in
         let r = both-true (inRange (s .m)) (inRange (s .h)) (q .0) in
-        (r .0, r .1, q .1, p .1)
+        (r .0, r .1, p .0, q .1)
 
     pub shafts-in-range : (0 < s .m) × (s .m ≤ mostShafts)
     shafts-in-range = range (s .m) (parts .0)
@@ -83,7 +79,10 @@ module _ (s : Store) where
   -- a shaped store with a shaft and a row is in place
   pub shaped-in-place : Shaped s → 0 < s .m → ((x : ℕ) → x < s .m → 0 < depth s x) → inPlace s ≡ true
   shaped-in-place p m h =
-      by-shafts (simp (range-true (s .m) m (p .shafts), range-true (s .h) (depth-least (s .h) 0 (h 0 m)) (rows-most (s .h) 0 (p .rows 0))))
-      (p .heights-sized) (p .slots-sized) (p .numbered)
-      ∙ all-of mostShafts (shaftInPlace (s .m) (s .heights) (s .slots))
-      (λ x i. shaft-in-place (s .m) (s .heights) (s .slots) x (p .none-beyond x) (λ k. p .none-above x k i))
+      by-arrays (p .heights-sized) (p .slots-sized) (p .numbered)
+      ∙ simp (
+        range-true (s .m) m (p .shafts),
+        range-true (s .h) (depth-least (s .h) 0 (h 0 m)) (rows-most (s .h) 0 (p .rows 0)),
+        all-of mostShafts (shaftInPlace (s .m) (s .heights) (s .slots))
+            (λ x i. shaft-in-place (s .m) (s .heights) (s .slots) x (p .none-beyond x) (λ k. p .none-above x k i)),
+      )

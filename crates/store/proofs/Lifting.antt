@@ -13,7 +13,7 @@ use Rattle.lifts.specs.Numbers.{refusalNumber}
 use Rattle.lifts.specs.Carried.{CanCarry}
 use Rattle.lifts.proofs.Moving.{shown-place}
 use Rattle.lifts.proofs.Numbered.{refusal-one}
-use Rattle.shafts.proofs.SlotThere.{slot-range}
+use Rattle.depths.proofs.SlotThere.{slot-range}
 use Rattle.store.specs.declared.Store.{Store}
 use Rattle.store.specs.declared.Fault.{Fault}
 use Rattle.store.specs.declared.Answer.{Answer}

@@ -18,9 +18,9 @@ use Rattle.marks.proofs.Takes.{taken-cassette, cassette-taken}
 use Rattle.lifts.specs.Lifting.{shown}
 use Rattle.store.specs.declared.Store.{Store}
 use Rattle.store.specs.Slots.{depth, height, slot, upward, cassettesBelow}
-use Rattle.shafts.specs.Rows.{rowsUp, rowsFault}
+use Rattle.rows.specs.Rows.{rowsUp, rowsFault}
 use Rattle.store.specs.Accept.{shaftFault, shaftsFault}
-use Rattle.shafts.proofs.Walk.{row-after, row-passed}
+use Rattle.rows.proofs.Walk.{row-after, row-passed}
 use Rattle.store.proofs.Walk.{shaft-passed, by-rows, not-too-high}
 
 -- no number stands twice in a list that may not

@@ -9,7 +9,7 @@ use Rattle.marks.specs.Cassettes.{numbers}
 use Rattle.lifts.specs.Lifting.{shown, placedAt}
 use Rattle.store.specs.declared.Store.{Store}
 use Rattle.store.specs.Slots.{height, slot, downward, stack}
-use Rattle.shafts.specs.Rows.{rowsDown}
+use Rattle.rows.specs.Rows.{rowsDown}
 use Rattle.store.proofs.Typed.{numbered-set}
 
 -- slots of which one row is written

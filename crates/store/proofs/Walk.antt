@@ -6,9 +6,9 @@ use Rattle.marks.specs.Cassettes.{first}
 use Rattle.marks.proofs.Faulted.{first-none, given-none}
 use Rattle.store.specs.declared.Store.{Store}
 use Rattle.store.specs.Slots.{depth, height, cassettesBelow}
-use Rattle.shafts.specs.Rows.{rowsFault}
+use Rattle.rows.specs.Rows.{rowsFault}
 use Rattle.store.specs.Accept.{shaftFault, shaftsFault}
-use Rattle.shafts.proofs.Walk.{met, here, none}
+use Rattle.rows.proofs.Walk.{met, here, none}
 
 module _ (s : Store) where
   shaft-more : (x : ℕ) → shaftsFault s (suc x) ≡ first (shaftsFault s x) (shaftFault s x)

@@ -9,7 +9,7 @@ use Rattle.marks.proofs.Takes.{nothing-marked}
 use Rattle.store.specs.declared.Store.{Store}
 use Rattle.store.specs.declared.Fault.{Fault}
 use Rattle.store.specs.declared.Verdict.{Verdict}
-use Rattle.shafts.specs.Rows.{RowsAre}
+use Rattle.rows.specs.Rows.{RowsAre}
 use Rattle.store.specs.Accept.{shaftFault, shaftsFault}
 use Rattle.store.specs.Checking.{ShaftsAre}
 use Rattle.store.specs.Numbers.{faultNumber, verdictNumber}

@@ -8,8 +8,8 @@ use lib.ListN.{length}
 use lib.Dec.{ltb, eqb}
 use Rattle.marks.specs.Cassettes.{numbers, given, first}
 use Rattle.lifts.specs.Lifting.{mostShafts, slotCount}
-use Rattle.shafts.specs.InPlace.{allBelow, shaftInPlace, frameInRange}
-use Rattle.shafts.specs.Rows.{rowsFault}
+use Rattle.in_place.specs.InPlace.{allBelow, shaftInPlace, arraysInPlace}
+use Rattle.rows.specs.Rows.{rowsFault}
 use Rattle.store.specs.declared.Store.{Store}
 use Rattle.store.specs.Slots.{depth, height, cassettesBelow, cassetteCount}
 
@@ -26,7 +26,7 @@ typed s = (eqb (length (s .heights)) mostShafts && eqb (length (s .slots)) slotC
 -- number 12 does not apply
 unfoldable pub inPlace : Store → Bool
 unfolding allBelow shaftInPlace allShown
-inPlace s = (frameInRange (s .m) (s .h) && typed s) && allBelow mostShafts (shaftInPlace (s .m) (s .heights) (s .slots))
+inPlace s = typed s && arraysInPlace (s .m) (s .h) (s .heights) (s .slots)
 
 -- "3. A height above h.", and then the faults of the rows
 abbrev pub shaftFault : Store → ℕ → ℕ

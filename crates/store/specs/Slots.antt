@@ -7,9 +7,9 @@ use Prim.Native.Nat.{ℕ, zero, suc, _+_, _-_}
 use lib.ListN.{length}
 use Rattle.stacks.specs.Count.{sum, greatest}
 use Rattle.lifts.specs.Lifting.{heightIn, shown}
-use Rattle.shafts.specs.Depths.{depthBy, spaceFor}
-use Rattle.shafts.specs.InPlace.{slotThere}
-use Rattle.shafts.specs.Rows.{rowsUp, rowsDown}
+use Rattle.depths.specs.Depths.{depthBy, spaceFor}
+use Rattle.depths.specs.Depths.{slotThere}
+use Rattle.rows.specs.Rows.{rowsUp, rowsDown}
 use Rattle.store.specs.declared.Store.{Store}
 
 -- a store of its parts

@@ -3,6 +3,8 @@ use crate::Checked;
 use crate::Fault;
 use crate::Store;
 use crate::Verdict;
+use depths::depth_of;
+use in_place::arrays_in_place;
 use lifts::Heights;
 use lifts::Slots;
 use lifts::height_at;
@@ -10,16 +12,13 @@ use marks::Taken;
 use marks::Words;
 use marks::count;
 use marks::none;
-use shafts::depth_of;
-use shafts::place::frame_in_range;
-use shafts::place::shafts_in_place;
-use shafts::rows::take_rows;
+use rows::take_rows;
 ghost use mathlib.Core.Path.{_≡_};
 ghost use Prim.Native.Nat.{_≤_, _<_};
 ghost use Rattle.marks.specs.Marking.{noMarks};
 ghost use Rattle.lifts.specs.Lifting.{mostShafts};
 ghost use Rattle.store.specs.Slots.{held, cassettes};
-ghost use Rattle.shafts.specs.Depths.{DepthsFit};
+ghost use Rattle.depths.specs.Depths.{DepthsFit};
 ghost use Rattle.store.specs.Accept.{storeFault};
 ghost use Rattle.store.specs.Checking.{ShaftsAre};
 ghost use Rattle.store.specs.Promises.{CheckIs};
@@ -67,10 +66,7 @@ impl Store {
     {
         let heights = self.heights;
         let slots = self.slots;
-        if !frame_in_range(self.m, self.h) {
-            return refused(Fault::OutOfPlace);
-        }
-        if !shafts_in_place(self.m, &heights, &slots) {
+        if !arrays_in_place(self.m, self.h, &heights, &slots) {
             return refused(Fault::OutOfPlace);
         }
         let mut marks = none();

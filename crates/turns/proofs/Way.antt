@@ -13,7 +13,7 @@ use Rattle.stacks.proofs.Sums.{everywhere}
 use Rattle.stacks.proofs.RoundLaws.{halfway-after, halfway-less, halfway-more, find}
 use Rattle.store.specs.declared.Store.{Store}
 use Rattle.store.specs.Slots.{height, slot, downward, stack, held}
-use Rattle.shafts.specs.Rows.{rowsDown}
+use Rattle.rows.specs.Rows.{rowsDown}
 use Rattle.store.proofs.Rows.{stack-length}
 use Rattle.rooms.specs.declared.Frame.{Frame}
 use Rattle.lifts.specs.Lifting.{heightIn}

@@ -6,7 +6,7 @@ use lib.ListN.{length, set}
 use Rattle.stacks.specs.Run.{Stacks, Usable}
 use Rattle.stacks.specs.Placing.{Halfway}
 use Rattle.store.specs.Slots.{stack}
-use Rattle.shafts.specs.Rows.{rowsDown}
+use Rattle.rows.specs.Rows.{rowsDown}
 use Rattle.store.specs.Sound.{Shaped}
 use Rattle.moves.specs.Went.{Went}
 use Rattle.rooms.specs.declared.Frame.{Frame}

@@ -1,7 +1,7 @@
 -- `planned` meets its contract: enough is lent for every store.
 use borrow.Author.Needs.{needs}
 use native.Mathlib.Omega.{arith}
-use Rattle.planner.proofs.PlanExact.{space-suffices}
+use Rattle.plans.proofs.PlanExact.{space-suffices}
 use Rattle.plan.proofs.planned.Statement.{statement}
 use Rattle.plan.proofs.planned.Tie as tie
 

@@ -1,7 +1,7 @@
 -- `make_list` meets its contract: the fault of the pair, or what is planned for two stores that can be compared.
 use borrow.Author.Needs.{needs}
 use Rattle.pairs.proofs.Answers.{comparable-by, count-by, faulty-by}
-use Rattle.planner.proofs.PlanAnswers.{refused-as}
+use Rattle.plans.proofs.PlanAnswers.{refused-as}
 use Rattle.planner.proofs.make_list.Statement.{statement}
 use Rattle.planner.proofs.make_list.Tie as tie
 

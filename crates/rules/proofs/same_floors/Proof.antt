@@ -7,8 +7,8 @@ use Prim.Native.Nat.{ℕ, _-_, _≤_, _<_}
 use native.Mathlib.Omega.{arith}
 use Rattle.stacks.specs.Deciding.{Decides}
 use Rattle.stacks.proofs.Deciding.{holds, fails}
-use Rattle.shafts.specs.Depths.{depthBy}
-use Rattle.shafts.specs.Rows.{rowsUp}
+use Rattle.depths.specs.Depths.{depthBy}
+use Rattle.rows.specs.Rows.{rowsUp}
 use Rattle.rules.proofs.same_floors.Statement.{statement}
 use Rattle.rules.proofs.same_floors.Tie as tie
 

@@ -6,7 +6,7 @@ use Prim.Native.Nat.{_≤_, _<_}
 use native.Mathlib.Omega.{arith}
 use Rattle.lifts.specs.Lifting.{mostShafts, mostRows}
 use Rattle.store.specs.Slots.{hasSlot}
-use Rattle.shafts.proofs.SlotThere.{slot-range}
+use Rattle.depths.proofs.SlotThere.{slot-range}
 use Rattle.store.proofs.Lifting.{content-none, content-at}
 use borrow.Author.Needs.{needs}
 use Rattle.store.proofs.Store.content.Statement.{statement}

@@ -6,8 +6,8 @@ use native.Mathlib.Numerals.{add-one}
 use native.Mathlib.Omega.{arith}
 use Rattle.marks.specs.Taking.{takenNumber}
 use Rattle.lifts.specs.Lifting.{heightIn}
-use Rattle.shafts.specs.Depths.{depthBy}
-use Rattle.shafts.specs.Rows.{RowsAre}
+use Rattle.depths.specs.Depths.{depthBy}
+use Rattle.rows.specs.Rows.{RowsAre}
 use Rattle.store.specs.declared.Fault.{Fault}
 use Rattle.store.specs.declared.Verdict.{Verdict}
 use Rattle.store.specs.Checking.{ShaftsAre}

@@ -1,4 +1,0 @@
-pub mod CallAnswers
-pub mod CallExact
-pub mod Kept
-pub mod ReplayAnswers

@@ -1,0 +1,94 @@
+-- What the numbers of the calls say, back from the answer to the fact: for images that are read and stores that can be compared the yes or no gives 0
+-- exactly if the goal can be reached and 15 exactly if not; a plan of number 0 has its list in the first bytes, and for one of number 15 there is none.
+use mathlib.Core.List.{List}
+use mathlib.Core.Logic.{_⊎_, inl, inr, ⊎-elim}
+use mathlib.Core.Path.{_≡_, sym, ap, _∙_, subst}
+use Prim.Native.Nat.{ℕ, _/_, _%_, _^_, _≤_, _<_}
+use native.Mathlib.Decide.{ℕ-discrete}
+use native.Mathlib.Nat.{mod-eq-of-lt}
+use native.Mathlib.Omega.{arith}
+use Rattle.store.specs.Lists.{Reachable}
+use Rattle.store.proofs.Space.{list-space-most}
+use Rattle.reach.specs.Pairs.{Comparable}
+use Rattle.reachable.specs.Numbers.{reachNumber}
+use Rattle.reachable.specs.Promises.{ReachSays}
+use Rattle.reachable.proofs.Exact.{one-reach, yes-exactly, no-exactly, zero-is-yes, fifteen-is-no}
+use Rattle.plans.specs.Numbers.{planNumber}
+use Rattle.plans.specs.Promises.{PlanSays, Lists}
+use Rattle.plans.proofs.PlanExact.{listed-list, zero-is-listed, fifteen-is-unreachable, number-most}
+use Rattle.image.proofs.Numbers.{number-few, first-few}
+use Rattle.calls.specs.Shared.{answerOf, storeIn, readFault, readFaults}
+use Rattle.pair_calls.specs.PairCalls.{ReachCallIs, PlanGives, PlanCallIs}
+
+-- faults of reading are 1 to 7
+faults-few : (a b : List ℕ) → readFaults a b ≤ 7
+faults-few a b = first-few (readFault a) (readFault b) (number-few a) (number-few b)
+
+module _ {a b : List ℕ} {r : ℕ} (p : ReachCallIs a b r) where
+  -- a number that no fault of reading has is the answer on the stores
+  answered : (r ≡ 0) ⊎ (7 < r) → readFaults a b ≡ 0
+  answered w =
+      elim (ℕ-discrete (readFaults a b) 0) [
+        | yes z ↦ z
+        | no n ↦ absurd (⊎-elim (λ e. n (sym (p .unread n) ∙ e)) (λ h. omega (arith, p .unread n, faults-few a b)) w)
+      ]
+
+  pub call-yes : r ≡ 0 → Reachable (storeIn a) (storeIn b)
+  call-yes e =
+      let g = p .answered (answered (inl e)) in
+      subst (ReachSays (storeIn a) (storeIn b)) (zero-is-yes (g .answer) (sym (g .number) ∙ e)) (g .says) .1
+
+  pub call-no : r ≡ 15 → Reachable (storeIn a) (storeIn b) → ⊥
+  call-no e =
+      let g = p .answered (answered (inr (omega arith))) in
+      subst (ReachSays (storeIn a) (storeIn b)) (fifteen-is-no (g .answer) (sym (g .number) ∙ e)) (g .says) .1
+
+  module _ (z : readFaults a b ≡ 0) (c : Comparable (storeIn a) (storeIn b)) where
+    pub yes-called : Reachable (storeIn a) (storeIn b) → r ≡ 0
+    yes-called l = let g = p .answered z in g .number ∙ ap reachNumber (yes-exactly _ _ (g .answer) (g .says) c .0 l)
+
+    pub no-called : (Reachable (storeIn a) (storeIn b) → ⊥) → r ≡ 15
+    no-called n = let g = p .answered z in g .number ∙ ap reachNumber (no-exactly _ _ (g .answer) (g .says) c .0 n)
+
+-- the yes or no of two images is one number
+pub one-reach-call : {a b : List ℕ} {r q : ℕ} → ReachCallIs a b r → ReachCallIs a b q → r ≡ q
+one-reach-call {a} {b} {r} {q} u v =
+    elim (ℕ-discrete (readFaults a b) 0) [
+      | yes z ↦ (let g = u .answered z in let h = v .answered z in
+          g .number ∙ ap reachNumber (one-reach _ _ (g .answer) (h .answer) (g .says) (h .says)) ∙ sym (h .number))
+      | no n ↦ u .unread n ∙ sym (v .unread n)
+    ]
+
+-- the number of an answer is its low byte, the count what stands above it
+low-byte : (count number r : ℕ) → number < 256 → r ≡ answerOf count number → (r % 256 ≡ number) × (r / 256 ≡ count % 2 ^ 56)
+low-byte count number r h e = (omega arith, omega arith)
+
+module _ {a b came out : List ℕ} {r : ℕ} (p : PlanCallIs a b came r out) where
+  planned : (r % 256 ≡ 0) ⊎ (7 < r % 256) → readFaults a b ≡ 0
+  planned w =
+      elim (ℕ-discrete (readFaults a b) 0) [
+        | yes z ↦ z
+        | no n ↦
+            absurd (⊎-elim (λ e. n (omega (arith, p .unread n .0, faults-few a b))) (λ h. omega (arith, p .unread n .0, faults-few a b)) w)
+      ]
+
+  number-of : (g : PlanGives (storeIn a) (storeIn b) came out r)
+      → (r % 256 ≡ planNumber (g .planned .answer)) × (r / 256 ≡ g .planned .count % 2 ^ 56)
+  number-of g = low-byte (g .planned .count) _ r (omega (arith, number-most (g .planned .answer))) (g .number)
+
+  -- the first r / 256 bytes are a list that leads from start to goal
+  pub call-listed : r % 256 ≡ 0 → Lists (storeIn a) (storeIn b) came out (r / 256)
+  call-listed e =
+      let g = p .answered (planned (inl e)) in
+      let q = number-of g in
+      let k = zero-is-listed (g .planned .answer) (sym (q .0) ∙ e) in
+      let l = listed-list _ _ _ _ (g .planned) (g .is) k in
+      let c = subst (PlanSays (storeIn a) (storeIn b) came) k (g .is .answer) .0 in
+      let few : g .planned .count < 2 ^ 56 = omega (arith, l .count, l .short, list-space-most _ (c .start)) in
+      subst (Lists (storeIn a) (storeIn b) came out) (sym (q .1 ∙ mod-eq-of-lt few)) l
+
+  pub call-unreachable : r % 256 ≡ 15 → Reachable (storeIn a) (storeIn b) → ⊥
+  call-unreachable e =
+      let g = p .answered (planned (inr (omega arith))) in
+      let k = fifteen-is-unreachable (g .planned .answer) (sym (number-of g .0) ∙ e) in
+      subst (PlanSays (storeIn a) (storeIn b) came) k (g .is .answer) .1 .1

@@ -1,0 +1,2 @@
+pub mod CallAnswers
+pub mod CallExact

@@ -1,0 +1,53 @@
+-- The answers of the list maker by what was found: refused by the pair, refused for space, unreachable, and a list.
+use mathlib.Core.List.{List}
+use mathlib.Core.Path.{_≡_, refl, _∙_}
+use Prim.Native.Nat.{ℕ, _≤_, _<_}
+use native.Mathlib.Omega.{arith}
+use lib.ListN.{length}
+use Rattle.stacks.specs.Count.{greatest}
+use Rattle.store.specs.declared.Store.{Store}
+use Rattle.store.specs.Slots.{depth, deepest, cassetteCount, listSpace}
+use Rattle.depths.specs.Depths.{DepthsFit, spaceFor}
+use Rattle.store.proofs.Acceptance.{accepted-sound}
+use Rattle.reach.specs.Pairs.{Comparable}
+use Rattle.reach.specs.Rules.{Rule}
+use Rattle.reach.proofs.Reachability.{reachable-rule}
+use Rattle.plans.specs.declared.PlanAnswer.{PlanAnswer}
+use Rattle.plans.specs.declared.Planned.{Planned}
+use Rattle.making.specs.Made.{MadeIs}
+use Rattle.plans.specs.Promises.{PlanSays, PlanLeaves, Untouched, RefusedPlan, PlanIs}
+
+-- stores that can be compared have few rows and few cassettes
+pub counted-few : (s t : Store) → Comparable s t → (0 < s .m) × DepthsFit (s .h) × (cassetteCount s ≤ 255)
+counted-few s t p = let a = accepted-sound s (p .start) in (a .some-shaft, a .shaped .rows, a .few)
+
+-- the list space as the code counts it
+pub space-counted : (s : Store) (n k : ℕ) → n ≡ cassetteCount s → k ≡ spaceFor (greatest (s .m) (depth s)) n → k ≡ listSpace s
+unfolding listSpace deepest
+space-counted s n k f g = g ∙ rw f
+
+module _ (s t : Store) (came : List ℕ) where
+  -- a refusal that is right is the answer
+  pub refused-as : (a : PlanAnswer) {out : List ℕ} {r : Planned} → RefusedPlan a came out r → PlanSays s t came a → (Untouched came out 0 → PlanLeaves s t came out 0 a)
+      → PlanIs s t came out r
+  refused-as a e p q = rw (e .is) (record { answer = p; left = q (record { count = refl; bytes = e .bytes }) })
+
+  pub not-by-rule : Comparable s t → listSpace s ≤ length came → (Rule s t → ⊥) → PlanSays s t came PlanAnswer.Unreachable
+  not-by-rule p h n = (p, (h, λ l. n (reachable-rule s t p l)))
+
+  -- a list, which is empty where there is nothing to do
+  module _ (p : Comparable s t) (h : listSpace s ≤ length came) where
+    pub listed-made : {k : ℕ} {out : List ℕ} (r : Planned) → r ≡ record { answer = PlanAnswer.Listed; count = k } → MadeIs s t came k out → PlanIs s t came out r
+    listed-made {k} {out} r e l =
+        let w = l .steps in
+        rw e (record {
+          answer = (p, (h, record { lifts = w .lifts; leads = w .leads }));
+          left = record {
+            lifts = w .lifts;
+            leads = w .leads;
+            count = omega (arith, w .count);
+            short = omega (arith, w .count, l .short);
+            bytes = w .bytes;
+            nothing = l .nothing;
+          };
+        })

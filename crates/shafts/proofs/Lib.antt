@@ -1,5 +1,0 @@
-pub mod AllBelow
-pub mod InPlace
-pub mod SlotThere
-pub mod Walk
-pub mod Walked

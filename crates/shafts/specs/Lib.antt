@@ -1,3 +1,0 @@
-pub mod Depths
-pub mod InPlace
-pub mod Rows
