@@ -11,19 +11,16 @@ fn say(what: &[u8], number: u64) {
     io::print_decimal(STDOUT_FILENO, number);
 }
 
-fn say_byte(what: &[u8], b: u8) {
-    say(what, b as u64);
-}
-
-fn say_count(what: &[u8], n: usize) {
-    say(what, n as u64);
-}
-
-// The byte at a place of a slice.
-fn say_at(what: &[u8], out: &[u8], i: usize) {
-    if i < out.len() {
-        say_byte(what, out[i]);
+// The first n bytes, or all where there are fewer, and the end of the line.
+fn say_bytes(bytes: &[u8], n: usize) {
+    let mut i: usize = 0;
+    while i < n {
+        if i < bytes.len() {
+            say(b" ", bytes[i] as u64);
+        }
+        i += 1;
     }
+    io::write_all(STDOUT_FILENO, b"\n");
 }
 
 fn empty(m: u8, h: u8) -> Store {
@@ -35,77 +32,37 @@ fn empty(m: u8, h: u8) -> Store {
     }
 }
 
-// How many of the bytes differ.
-fn differing(a: &[u8], b: &[u8]) -> u64 {
-    let mut n: u64 = 0;
-    let mut i: usize = 0;
-    while i < a.len() {
-        if i < b.len() {
-            if a[i] != b[i] {
-                n = n + 1;
-            }
-        }
-        i += 1;
-    }
-    n
+// Reads an image, and prints its number and the bytes that the store handed back is written as: those of the image where it is accepted, else those of
+// the empty store of m 1, h 1.
+fn shown(what: &[u8], image: &[u8]) {
+    let got = read(image);
+    let answer = got.answer;
+    say(what, read_number(answer) as u64);
+    let s = got.store;
+    let mut out = [255u8; 300];
+    let done = write(s, &mut out);
+    say(b"  count ", done.count as u64);
+    say_bytes(&out, done.count);
 }
 
-// Reads the first n bytes, and prints the number and how many slots and heights differ from those of a store.
-fn read_back(s: Store, out: &[u8], n: usize) {
+// Reads the first n bytes, where there are as many.
+fn read_back(out: &[u8], n: usize) {
     if out.len() < n {
         return;
     }
-    let back = read(&out[..n]);
-    let answer = back.answer;
-    say_byte(b"  read back ", read_number(answer));
-    let t = back.store;
-    let a = s.slots;
-    let b = t.slots;
-    let c = s.heights;
-    let d = t.heights;
-    say(b"  differing slots ", differing(&a, &b));
-    say(b"  heights ", differing(&c, &d));
+    shown(b"read back: ", &out[..n]);
 }
 
-// Writes a store, and prints the number, the count, and the bytes about the end of the image.
+// Writes a store, and prints the number, the count, and the lent bytes: the image and two more, which are as they came.
 fn written(what: &[u8], s: Store, out: &mut [u8]) {
     let done = write(s, out);
     let answer = done.answer;
     let n = done.count;
-    say_byte(what, write_number(answer));
-    say_count(b"  count ", n);
-    say_at(b"  first ", out, 0);
-    if 0 < n {
-        say_at(b"  last ", out, n - 1);
-        say_at(b"  after ", out, n);
-        read_back(s, out, n);
+    say(what, write_number(answer) as u64);
+    say(b"  count ", n as u64);
+    if n < 300 {
+        say_bytes(out, n + 2);
     }
-    io::write_all(STDOUT_FILENO, b"\n");
-}
-
-// The frame of a store and what stands in shafts 0 and 2.
-fn say_store(s: Store) {
-    say_byte(b"  m ", s.m);
-    say_byte(b"  h ", s.h);
-    say_byte(b"  shaft 0 ", s.heights[0]);
-    say_byte(b": ", s.slots[0]);
-    say_byte(b" ", s.slots[1]);
-    say_byte(b"  shaft 2 ", s.heights[2]);
-    say_byte(b": ", s.slots[32]);
-}
-
-// Reads an image, and prints its number, the store, and how many bytes differ when it is written.
-fn shown(what: &[u8], image: &[u8]) {
-    let got = read(image);
-    let answer = got.answer;
-    say_byte(what, read_number(answer));
-    let s = got.store;
-    say_store(s);
-    let mut out = [255u8; 300];
-    let done = write(s, &mut out);
-    say_count(b"  written ", done.count);
-    say(b"  differing ", differing(image, &out));
-    io::write_all(STDOUT_FILENO, b"\n");
 }
 
 // m 16, h 16: cassettes 1 to 255 from shaft 0 upward, and one empty slot.
@@ -157,6 +114,7 @@ fn stores_written() {
     let mut out = [255u8; 300];
     written(b"m 1, h 1, empty: ", empty(1, 1), &mut out);
     written(b"m 16, h 16, 255 cassettes: ", fullest(), &mut out);
+    read_back(&out, 267);
 }
 
 fn stores_refused() {

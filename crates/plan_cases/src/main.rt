@@ -132,28 +132,32 @@ fn led(start: Store, goal: Store, list: &[u8], count: usize) -> bool {
     if end_number(end) != 0 {
         return false;
     }
-    if reached.m != goal.m {
-        return false;
-    }
-    if reached.h != goal.h {
-        return false;
-    }
     same_store(reached, goal)
 }
 
+// What was answered: the number of the yes or no, that of the plan, the count of lifts, and whether they lead to the goal.
+fn tell(reach: u8, plan: u8, count: usize, arrived: bool) {
+    say(b": yes or no ", reach as u64);
+    say(b", plan ", plan as u64);
+    say(b", lifts ", count as u64);
+    if arrived {
+        io::write_all(STDOUT_FILENO, b", replay ends at the goal");
+    }
+    io::write_all(STDOUT_FILENO, b"\n");
+}
+
 fn show(what: &[u8], start: Store, goal: Store, list: &mut [u8]) {
+    io::write_all(STDOUT_FILENO, what);
     let planned = make_list(start, goal, list);
     let answer = planned.answer;
     let count = planned.count;
-    io::write_all(STDOUT_FILENO, what);
-    say(b": yes or no ", reach_number(reachable(start, goal)) as u64);
-    say(b", plan ", plan_number(answer) as u64);
-    say(b", lifts ", count as u64);
-    if led(start, goal, list, count) {
-        io::write_all(STDOUT_FILENO, b", replay ends at the goal\n");
-    } else {
-        io::write_all(STDOUT_FILENO, b"\n");
-    }
+    let reach = reach_number(reachable(start, goal));
+    tell(
+        reach,
+        plan_number(answer),
+        count,
+        led(start, goal, list, count),
+    );
 }
 
 // m 16, h 16 with 255 cassettes, as full as a store gets: shaft by shaft, counted from a number on.
@@ -167,50 +171,57 @@ fn nearly_full(from: usize) -> Store {
     s
 }
 
-fn small_cases() {
-    let mut list = [0u8; 192];
+fn dealt_cases(list: &mut [u8]) {
     let mut k: usize = 0;
     while k < 6 {
         show(
             b"m 3, h 4, n 8, dealt another way",
             dealt(k),
             dealt(k + 1),
-            &mut list,
+            list,
         );
         k += 1;
     }
-    show(
-        b"list space of 4hn + 8n bytes",
-        dealt(0),
-        dealt(1),
-        &mut list,
-    );
-    show(b"start equal to goal", dealt(0), dealt(0), &mut list);
+}
+
+fn space_cases(enough: &mut [u8], less: &mut [u8]) {
+    show(b"list space of 4hn + 8n bytes", dealt(0), dealt(1), enough);
+    show(b"one byte less", dealt(0), dealt(1), less);
+    show(b"start equal to goal", dealt(0), dealt(0), enough);
+}
+
+fn refused_cases(list: &mut [u8]) {
     show(
         b"other cassettes",
         with(empty(3, 3), 0, 1),
         with(empty(3, 3), 0, 2),
-        &mut list,
+        list,
     );
-    show(b"another m", empty(3, 3), empty(4, 3), &mut list);
-    show(b"a store of m 0", empty(0, 3), empty(3, 3), &mut list);
+    show(b"another m", empty(3, 3), empty(4, 3), list);
+    show(b"a store of m 0", empty(0, 3), empty(3, 3), list);
 }
 
-fn main() {
-    small_cases();
-    let mut less = [0u8; 191];
-    show(b"one byte less", dealt(0), dealt(1), &mut less);
-    let mut list = [0u8; 18360];
+fn full_cases(list: &mut [u8]) {
     show(
         b"m 16, h 16, n 255, to itself",
         nearly_full(0),
         nearly_full(0),
-        &mut list,
+        list,
     );
     show(
         b"m 16, h 16, n 255, all numbers one place on",
         nearly_full(0),
         nearly_full(1),
-        &mut list,
+        list,
     );
+}
+
+fn main() {
+    let mut enough = [0u8; 192];
+    dealt_cases(&mut enough);
+    let mut less = [0u8; 191];
+    space_cases(&mut enough, &mut less);
+    refused_cases(&mut enough);
+    let mut list = [0u8; 18360];
+    full_cases(&mut list);
 }

@@ -12,4 +12,4 @@ pub led-spec : {M : Type 1} → statement M
 led-spec =
     tie.close
     (tie.spec (λ c. search needs) slice-aggregate-replay (λ c κs. search needs) (λ c κs. search needs) (λ c. search needs)
-    (λ c. search needs) (λ c. search needs) (λ c κs. search needs) (λ c. search needs))
+    (λ c κs. search needs) (λ c. search needs))
