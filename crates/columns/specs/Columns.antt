@@ -57,6 +57,6 @@ pub record RowsRead (bytes : List ℕ) (n x rows : ℕ) (slots words : List ℕ)
 pub record ColumnRead (bytes : List ℕ) (h x : ℕ) (heights slots words : List ℕ) (c : Cursor) (heights′ slots′ words′ : List ℕ) (r : Cursor) : Type 0 where
   pub reads : (m : ℕ) → Reads bytes (readColumn x (c .value)) columnMost (state m h heights slots words c) (state m h heights′ slots′ words′ r)
 
--- The shafts below x, of a store of m shafts of depth h, were read.
+-- The shafts below x, of a store of m shafts of depth h, were read. What the arrays hold after a fault is left free.
 pub record ShaftsRead (bytes : List ℕ) (m h x : ℕ) (heights slots words : List ℕ) (c : Cursor) (heights′ slots′ words′ : List ℕ) (r : Cursor) : Type 0 where
   pub reads : Reads bytes (readShafts x) (shaftMost * x) (state m h heights slots words c) (state m h heights′ slots′ words′ r)

@@ -32,16 +32,29 @@ fn empty(m: u8, h: u8) -> Store {
     }
 }
 
-// Reads an image, and prints its number and the bytes that the store handed back is written as: those of the image where it is accepted, else those of
-// the empty store of m 1, h 1.
+// The frame of a store, its first heights, and its slots as far as row 1 of shaft 2.
+fn say_store(s: Store) {
+    say(b"  m ", s.m as u64);
+    say(b"  h ", s.h as u64);
+    let heights = s.heights;
+    let slots = s.slots;
+    io::write_all(STDOUT_FILENO, b"\n  heights");
+    say_bytes(&heights, 3);
+    io::write_all(STDOUT_FILENO, b"  slots");
+    say_bytes(&slots, 33);
+}
+
+// Reads an image, and prints its number, the store handed back, and the bytes that this store is written as: those of the image where it is accepted,
+// else those of the empty store of m 1, h 1.
 fn shown(what: &[u8], image: &[u8]) {
     let got = read(image);
     let answer = got.answer;
     say(what, read_number(answer) as u64);
     let s = got.store;
+    say_store(s);
     let mut out = [255u8; 300];
     let done = write(s, &mut out);
-    say(b"  count ", done.count as u64);
+    io::write_all(STDOUT_FILENO, b"  written as");
     say_bytes(&out, done.count);
 }
 
@@ -60,6 +73,7 @@ fn written(what: &[u8], s: Store, out: &mut [u8]) {
     let n = done.count;
     say(what, write_number(answer) as u64);
     say(b"  count ", n as u64);
+    io::write_all(STDOUT_FILENO, b"  lent bytes");
     if n < 300 {
         say_bytes(out, n + 2);
     }

@@ -1,6 +1,6 @@
 -- The walk over the rows of a shaft as the code does it, cassette by cassette: what is known so far, and the answer at each end.
 use mathlib.Core.List.{List, _++_, append-nil}
-use mathlib.Core.Path.{_≡_, refl, sym, subst}
+use mathlib.Core.Path.{_≡_, refl, sym, subst, _∙_}
 use Prim.Native.Nat.{ℕ, suc, _<_}
 use native.Mathlib.Omega.{arith}
 use Rattle.marks.specs.declared.Taken.{Taken}
@@ -44,6 +44,7 @@ module _ {words slots : List ℕ} {x k : ℕ} {words′ words″ : List ℕ} (p 
       below = k;
       few = h;
       none = p .none;
+      met = λ before m e. taken-one r n (t .fault _ (p .marks before m) ∙ e);
       marks = λ before m. rw (refused-words r n t) (p .marks before m);
     };
   }

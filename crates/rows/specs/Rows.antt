@@ -23,11 +23,12 @@ unfoldable pub rowsFault : List ℕ → List ℕ → ℕ → ℕ → ℕ
 rowsFault before slots x zero = 0
 rowsFault before slots x (suc k) = first (rowsFault before slots x k) (cassetteFault (before ++ rowsUp slots x k) (shown slots x (suc k)))
 
--- The rows below one of rows 1 to k were taken, and that one was refused.
+-- The rows below one of rows 1 to k were taken, and that one was refused: it is the first with a fault.
 pub record RowRefused (words slots : List ℕ) (x k : ℕ) (words′ : List ℕ) : Type 0 where
   pub below : ℕ
   pub few : below < k
   pub none : (before : List ℕ) → Marked words before → rowsFault before slots x below ≡ 0
+  pub met : (before : List ℕ) → Marked words before → cassetteFault (before ++ rowsUp slots x below) (shown slots x (suc below)) ≡ 0 → ⊥
   pub marks : (before : List ℕ) → Marked words before → Marked words′ (before ++ rowsUp slots x below)
 
 -- Rows 1 to k of shaft x were taken after the cassettes that the words marked; or the first fault was found, and the words mark the rows below it.
