@@ -30,6 +30,7 @@ pub fn count_bits(heights: &Heights, shafts: usize) -> usize
     n
 }
 
+// The head: form, m − 1, h − 1.
 pub fn write_head(s: Store, out: &mut [u8]) -> Pen
     requires { ⌜ (0 < s .m) × (0 < s .h) × (12 ≤ 8 * length (now out)) ⌝ }
     ensures { λ r. ⌜ Pushes (headBits s) (now (out .entry)) (now (out .exit)) noBits r ⌝ }

@@ -1,6 +1,6 @@
 -- When number 12 does not apply: each part of `inPlace`, and what it says of a store.
 use borrow.Author.Tests.{eqb-true, eq-eqb}
-use mathlib.Core.Bool.{true, false, _&&_}
+use mathlib.Core.Bool.{true, _&&_}
 use mathlib.Core.Path.{_≡_, _∙_}
 use Prim.Native.Nat.{ℕ, _≤_, _<_}
 use native.Mathlib.Decide.{decLt}
