@@ -4,8 +4,10 @@ use mathlib.Core.List.{List}
 use mathlib.Core.Path.{_≡_}
 use Prim.Native.Nat.{ℕ, zero, suc, _+_, _*_, _%_, _^_}
 use Rattle.store.specs.declared.Store.{Store}
+use Rattle.store.specs.Accept.{Accepted}
 use Rattle.marks.specs.Cassettes.{first}
 use Rattle.image.specs.Reading.{readImage}
+use Rattle.calls.specs.declared.One.{One}
 use Rattle.calls.specs.declared.Both.{Both}
 
 -- count × 256 + number; a count of 56 bits or more keeps its low 56 bits
@@ -23,6 +25,12 @@ storeIn bytes = readImage bytes .store
 
 abbrev pub readFault : List ℕ → ℕ
 readFault bytes = readImage bytes .number
+
+-- An image was read: the number that refuses it, and its store, which is accepted where the image is.
+pub record OneIs (a : List ℕ) (r : One) : Type 0 where
+  pub number : r .number ≡ readFault a
+  pub store : r .store ≡ storeIn a
+  pub accepted : readFault a ≡ 0 → Accepted (storeIn a)
 
 -- "read start first"
 abbrev pub readFaults : List ℕ → List ℕ → ℕ

@@ -1,9 +1,9 @@
-// What the C calls share: an answer put together, a refusal that writes nothing, and two images read.
+// What the C calls share: an answer put together, a refusal that writes nothing, and images read.
 use numbers::read_number;
 use reading::read;
 use store::Store;
 ghost use mathlib.Core.Path.{_≡_};
-ghost use Rattle.calls.specs.Shared.{answerOf, RefusedCall, BothAre};
+ghost use Rattle.calls.specs.Shared.{answerOf, RefusedCall, OneIs, BothAre};
 
 // The two parts of an answer put together.
 pub fn answer(count: usize, number: u8) -> u64
@@ -19,6 +19,24 @@ pub fn refused(number: u8, out: &mut [u8]) -> u64
     number as u64
 }
 
+// An image that was read: the number that refuses it, 0 for none, and its store.
+pub struct One {
+    pub number: u8,
+    pub store: Store,
+}
+
+pub fn read_one(image: &[u8]) -> One
+    ensures { λ r. ⌜ OneIs (now (image .entry)) r ⌝ }
+{
+    let one = read(image);
+    let verdict = one.answer;
+    let store = one.store;
+    One {
+        number: read_number(verdict),
+        store,
+    }
+}
+
 // Two images that were read: the number of the first one that is refused, 0 for none, and their stores where none is.
 pub struct Both {
     pub number: u8,
@@ -30,22 +48,19 @@ pub struct Both {
 pub fn read_both(start: &[u8], goal: &[u8]) -> Both
     ensures { λ r. ⌜ BothAre (now (start .entry)) (now (goal .entry)) r ⌝ }
 {
-    let one = read(start);
-    let first = one.answer;
-    let number = read_number(first);
+    let one = read_one(start);
     let s = one.store;
-    if number != 0 {
+    if one.number != 0 {
         return Both {
-            number,
+            number: one.number,
             start: s,
             goal: s,
         };
     }
-    let two = read(goal);
-    let second = two.answer;
+    let two = read_one(goal);
     let t = two.store;
     Both {
-        number: read_number(second),
+        number: two.number,
         start: s,
         goal: t,
     }

@@ -1,12 +1,14 @@
 // The calls for the controller's C program, on byte slices (document 01, "calls for the controller's C program on numbers and byte
 // slices"; the header is include/halyardgage.h). Each returns count × 256 + number.
-use numbers::read_number;
+use calls::read_one;
+use orders::Order;
+use orders::uncover;
 use pair_calls::call_plan;
 use pair_calls::call_reachable;
-use reading::read;
 use replay_call::call_replay;
 ghost use mathlib.Core.Path.{_≡_};
 ghost use Rattle.calls.specs.Shared.{readFault};
+ghost use Rattle.halyardgage.specs.UncoverCall.{UncoverCallIs};
 ghost use Rattle.pair_calls.specs.PairCalls.{ReachCallIs, PlanCallIs};
 ghost use Rattle.replay_call.specs.ReplayCall.{ReplayCallIs};
 
@@ -15,9 +17,8 @@ ghost use Rattle.replay_call.specs.ReplayCall.{ReplayCallIs};
 pub extern "C" fn halyard_check(image: &[u8]) -> u64
     ensures { λ r. ⌜ r ≡ readFault (now (image .entry)) ⌝ }
 {
-    let one = read(image);
-    let verdict = one.answer;
-    read_number(verdict) as u64
+    let one = read_one(image);
+    one.number as u64
 }
 
 // Whether some list of legal lifts leads from start to goal.
@@ -42,4 +43,18 @@ pub extern "C" fn halyard_replay(image: &[u8], list: &[u8], out: &mut [u8]) -> u
     ensures { λ r. ⌜ ReplayCallIs (now (image .entry)) (now (list .entry)) (now (out .entry)) r (now (out .exit)) ⌝ }
 {
     call_replay(image, list, out)
+}
+
+// Answers a row of orders on the store of an image, or leaves the row as it came.
+#[no_mangle]
+pub extern "C" fn halyard_uncover(image: &[u8], orders: &mut [Order]) -> u64
+    ensures { λ r. ⌜ UncoverCallIs (now (image .entry)) (now (orders .entry)) r (now (orders .exit)) ⌝ }
+{
+    let one = read_one(image);
+    let number = one.number;
+    if number == 0 {
+        let s = one.store;
+        uncover(s, orders);
+    }
+    number as u64
 }

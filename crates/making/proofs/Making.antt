@@ -21,9 +21,8 @@ use Rattle.store.proofs.Acceptance.{accepted-sound}
 use Rattle.store.proofs.Rows.{stack-length}
 use Rattle.reach.specs.Pairs.{Comparable}
 use Rattle.reach.specs.Rules.{floor, Rule}
-use Rattle.reach.proofs.Agree.{total-agrees, empties-agree}
+use Rattle.reach.proofs.Agree.{total-agrees, empties-agree, count-most}
 use Rattle.reach.proofs.Reachability.{start-within, beyond, same-occurrences, start-floor, goal-floor, rule-floors}
-use Rattle.rules.proofs.RuleLaws.{count-most}
 use Rattle.moves.specs.Written.{Steps}
 use Rattle.rooms.specs.declared.Frame.{Frame}
 use Rattle.lifts.specs.Lifting.{mostShafts, heightIn}

@@ -41,7 +41,7 @@ NoGap s = (x k : ℕ) → k < height s x → slot s x (suc k) ≡ 0 → ⊥
 
 module _ (s : Store) (c x : ℕ) where
   -- a row that shows c is counted
-  row-counted : (n k : ℕ) → k < n → slot s x (suc k) ≡ c → 0 < count c (downward s x n)
+  pub row-counted : (n k : ℕ) → k < n → slot s x (suc k) ≡ c → 0 < count c (downward s x n)
   unfolding rowsDown count
   row-counted zero k h e = absurd (omega arith)
   row-counted (suc n) k h e =
@@ -51,7 +51,7 @@ module _ (s : Store) (c x : ℕ) where
       ]
 
   -- where no row shows c, none is
-  none-counted : (n : ℕ) → ((k : ℕ) → k < n → slot s x (suc k) ≡ c → ⊥) → count c (downward s x n) ≡ 0
+  pub none-counted : (n : ℕ) → ((k : ℕ) → k < n → slot s x (suc k) ≡ c → ⊥) → count c (downward s x n) ≡ 0
   unfolding rowsDown count
   none-counted zero f = refl
   none-counted (suc n) f =

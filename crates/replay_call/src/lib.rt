@@ -1,9 +1,8 @@
 // The C call that plays a list on the store of an image.
 use calls::answer;
+use calls::read_one;
 use calls::refused;
 use numbers::end_number;
-use numbers::read_number;
-use reading::read;
 use replay::replay;
 use writing::write;
 ghost use Rattle.replay_call.specs.ReplayCall.{ReplayCallIs};
@@ -12,9 +11,8 @@ ghost use Rattle.replay_call.specs.ReplayCall.{ReplayCallIs};
 pub fn call_replay(image: &[u8], list: &[u8], out: &mut [u8]) -> u64
     ensures { λ r. ⌜ ReplayCallIs (now (image .entry)) (now (list .entry)) (now (out .entry)) r (now (out .exit)) ⌝ }
 {
-    let one = read(image);
-    let first = one.answer;
-    let number = read_number(first);
+    let one = read_one(image);
+    let number = one.number;
     if number != 0 {
         return refused(number, out);
     }

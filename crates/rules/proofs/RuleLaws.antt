@@ -1,22 +1,21 @@
--- The rule by the number of shafts: with one or two the readings agree, with three or more the floors; and how many cassettes shafts hold.
+-- The rule by the number of shafts: with one or two the readings agree, with three or more the floors.
 use mathlib.Core.List.{reverse, reverseAux, reverse-reverse}
 use mathlib.Core.Logic.{_↔_}
 use mathlib.Core.Path.{_≡_, refl, sym, ap, _∙_}
 use Prim.Native.Nat.{ℕ, zero, suc, _+_, _-_, _≤_, _<_}
 use native.Mathlib.Omega.{arith}
-use lib.ListN.{length, length-append, length-reverse}
-use Rattle.stacks.specs.Count.{sum, total}
+use Rattle.stacks.specs.Count.{total}
 use Rattle.stacks.specs.TwoStackReading.{twoStackReading}
 use Rattle.stacks.proofs.Counts.{same-length}
 use Rattle.store.specs.declared.Store.{Store}
-use Rattle.store.specs.Slots.{depth, height, upward, downward, stack, cassettesBelow, cassettes, cassetteCount, emptyCount}
+use Rattle.store.specs.Slots.{depth, height, upward, stack, cassettes, cassetteCount, emptyCount}
 use Rattle.store.specs.Sound.{Shaped, Sound}
 use Rattle.store.proofs.Acceptance.{accepted-sound}
 use Rattle.store.proofs.Rows.{stack-length}
 use Rattle.store.proofs.Views.{same-stacks}
 use Rattle.reach.specs.Pairs.{Comparable}
 use Rattle.reach.specs.Rules.{twoShaftReading, floor, RuleFor, Rule}
-use Rattle.reach.proofs.Agree.{upward-reversed, reading-agrees, total-agrees, none-beyond}
+use Rattle.reach.proofs.Agree.{reading-agrees, total-agrees, none-beyond}
 
 module _ (s : Store) (p : Shaped s) where
   -- one or two shafts hold what shafts 0 and 1 hold
@@ -31,20 +30,6 @@ module _ (s : Store) (p : Shaped s) where
       go (suc (suc zero)) e h i =
           omega (arith, total-agrees s, ap (λ m. total m (stack s)) e, stack-length s 0, stack-length s 1)
       go (suc (suc (suc m))) e h i = absurd (omega arith)
-
-  shaft-length : (x : ℕ) → length (upward s x (height s x)) ≡ height s x
-  unfolding stack
-  shaft-length x = ap length (upward-reversed s x (height s x)) ∙ length-reverse (downward s x (height s x)) ∙ stack-length s x
-
-  -- no store holds more than its slots
-  below-most : (x : ℕ) → length (cassettesBelow s x) ≤ sum x (depth s)
-  unfolding cassettesBelow sum
-  below-most zero = omega arith
-  below-most (suc x) = simp length-append (omega (arith, below-most x, shaft-length x, p .heights x))
-
-  pub count-most : cassetteCount s ≤ sum (s .m) (depth s)
-  unfolding cassetteCount cassettes
-  count-most = below-most (s .m)
 
   -- with one shaft, the reading is that shaft's
   one-read : s .m ≡ 1 → twoShaftReading s ≡ reverse (stack s 0)

@@ -63,7 +63,7 @@ fn same_rows(a: &Slots, b: &Slots, x: usize, k: usize) -> bool
 }
 
 // How many rows of a shaft of depth d never change: d − e, or none.
-fn floor_rows(d: u8, e: usize) -> usize
+pub fn floor_rows(d: u8, e: usize) -> usize
     ensures { λ r. ⌜ r ≡ d - e ⌝ }
 {
     let rows = d as usize;

@@ -34,7 +34,7 @@ leads-then ended k = k
 leads-then (then q r) k = then q (leads-then r k)
 
 -- a lift, then a list: the shafts of the lift's byte are those of the lift
-lift-then : (s t : Store) (l : Lift) (bs : List ℕ) → l .entered < 16 → Allowed s (l .left) (l .entered)
+pub lift-then : (s t : Store) (l : Lift) (bs : List ℕ) → l .entered < 16 → Allowed s (l .left) (l .entered)
     → Leads (lifted s (l .left) (l .entered)) bs t → Leads s (byteOf l ∷ bs) t
 lift-then s t l bs h q r =
     let a : left (byteOf l) ≡ l .left = omega arith in

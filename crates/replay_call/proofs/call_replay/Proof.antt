@@ -3,24 +3,24 @@ use borrow.Author.Needs.{needs}
 use Prim.Native.Nat.{ℕ, _<_}
 use native.Mathlib.Omega.{arith}
 use lib.ListN.{getD}
-use Rattle.calls.proofs.Readings.{Stands, number-read, stands}
+use Rattle.calls.proofs.Readings.{Stands, stands}
 use Rattle.replay_call.proofs.ReplayAnswers.{replay-refused, replay-little-space, replay-answered}
 use Rattle.replay_call.proofs.call_replay.Statement.{statement}
 use Rattle.replay_call.proofs.call_replay.Tie as tie
 
 -- the store that the image stands for
-start : (c : tie.Else1) → Stands (c .before .before .before .before .before .before .args .image .now) (c .before .before .read .result .store)
-start c = stands _ (c .before .before .read .ensures) (c .before .read-number .ensures) (c .if1 .left)
+start : (c : tie.Else1) → Stands (c .before .before .before .before .before .args .image .now) (c .before .read-one .result .store)
+start c = stands (c .before .read-one .ensures) (c .if1 .left)
 
 -- the image is bytes
-bytes : (c : tie.Else1) (i : ℕ) → getD (c .before .before .before .before .before .before .args .image .now) i 0 < 256
-bytes c i = omega (arith, c .before .before .before .before .before .shared-slice-known .given i)
+bytes : (c : tie.Else1) (i : ℕ) → getD (c .before .before .before .before .before .args .image .now) i 0 < 256
+bytes c i = omega (arith, c .before .before .before .before .shared-slice-known .given i)
 
 returns : tie.Need-returns
 returns c =
     let r = c .before .before in
     let w = r .before .before in
-    replay-refused (r .refused .ensures) (number-read _ (w .before .before .read .ensures) (w .before .read-number .ensures)) (w .if1 .taken)
+    replay-refused (r .refused .ensures) (w .before .read-one .ensures .number) (w .if1 .taken)
 
 returns-2 : tie.Need-returns-2
 returns-2 c =
@@ -38,6 +38,6 @@ returns-3 c =
 pub call-replay-spec : {M : Type 1} → statement M
 call-replay-spec =
     tie.close
-    (tie.spec (λ c κs. search needs) (λ c κs. search needs) (λ c κs. search needs) (λ c. search needs) returns (λ c κs. search needs)
+    (tie.spec (λ c κs. search needs) (λ c κs. search needs) (λ c. search needs) returns (λ c κs. search needs)
     (λ c. search needs) returns-2 (λ c κs. search needs) (λ c κs. search needs) (λ c κs. search needs) (λ c κs. search needs)
     (λ c. search needs) returns-3)

@@ -5,7 +5,8 @@ use Rattle.stacks.specs.Count.{sum}
 use Rattle.stacks.proofs.Deciding.{decides-as}
 use Rattle.store.specs.Slots.{depth, emptyCount}
 use Rattle.store.proofs.Acceptance.{accepted-shaped}
-use Rattle.rules.proofs.RuleLaws.{count-most, both-hold, few-rule, more-rule}
+use Rattle.reach.proofs.Agree.{count-most}
+use Rattle.rules.proofs.RuleLaws.{both-hold, few-rule, more-rule}
 use Rattle.rules.proofs.rule_holds.Statement.{statement}
 use Rattle.rules.proofs.rule_holds.Tie as tie
 

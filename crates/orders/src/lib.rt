@@ -1,0 +1,102 @@
+// Orders (document 02, 1/13): "a lent row of records that each name a cassette and receive its answer". The functions over the row are proved by a walk of
+// their code, by hand; `answered`, which does the work for one order, is covered.
+use depths::empty_slots;
+use lifts::Heights;
+use lifts::Slots;
+use marks::count;
+use store::Store;
+use store::Verdict;
+use uncovering::fewest_lifts;
+use uncovering::uncovering_lifts;
+use uncovering::uncovering_number;
+ghost use mathlib.Core.Path.{_≡_};
+ghost use Rattle.store.specs.Slots.{held};
+ghost use Rattle.uncovering.specs.Uncovering.{Lent};
+ghost use Rattle.orders.specs.Orders.{OrderIs, RowIs, BegunIs, UncoverIs};
+
+// An order: the cassette it names, and its answer.
+#[repr(C)]
+pub struct Order {
+    pub cassette: u16,
+    pub number: u8,
+    pub lifts: u8,
+}
+
+// One order answered.
+pub fn answered<'a>(
+    m: u8,
+    h: u8,
+    e: usize,
+    heights: &'a Heights,
+    slots: &'a Slots,
+    order: Order,
+) -> Order
+    requires { ⌜ Lent (held m h (now heights) (now slots)) e ⌝ }
+    ensures { λ r. ⌜ OrderIs (held m h (now (heights .entry)) (now (slots .entry))) order r ⌝ }
+{
+    let answer = fewest_lifts(m, h, e, heights, slots, order.cassette);
+    Order {
+        cassette: order.cassette,
+        number: uncovering_number(answer),
+        lifts: uncovering_lifts(answer),
+    }
+}
+
+// Every order of a row answered, on an accepted store with e empty slots.
+fn answer_row<'a, 'b>(
+    m: u8,
+    h: u8,
+    e: usize,
+    heights: &'a Heights,
+    slots: &'a Slots,
+    orders: &'b mut [Order],
+)
+    requires { ⌜ Lent (held m h (now heights) (now slots)) e ⌝ }
+    ensures { λ _. ⌜ RowIs (held m h (now (heights .entry)) (now (slots .entry))) (now (orders .entry)) (now (orders .exit)) ⌝ }
+{
+    let mut i: usize = 0;
+    while i < orders.len() {
+        orders[i] = answered(m, h, e, heights, slots, orders[i]);
+        i += 1;
+    }
+}
+
+// Whether a store is accepted, and then the count of its empty slots, else 0.
+pub struct Begun {
+    pub accepted: bool,
+    pub verdict: Verdict,
+    pub e: usize,
+}
+
+fn begin(s: Store) -> Begun
+    ensures { λ r. ⌜ BegunIs s r ⌝ }
+{
+    let checked = s.check();
+    let verdict = checked.verdict;
+    if let Verdict::Refused(_) = verdict {
+        return Begun {
+            accepted: false,
+            verdict,
+            e: 0,
+        };
+    }
+    let marks = checked.marks;
+    Begun {
+        accepted: true,
+        verdict,
+        e: empty_slots(s.m, s.h, count(marks)),
+    }
+}
+
+// A row of orders answered on a store given as a value, or left as it came where the store is refused.
+pub fn uncover(s: Store, orders: &mut [Order]) -> Verdict
+    ensures { λ r. ⌜ UncoverIs s (now (orders .entry)) r (now (orders .exit)) ⌝ }
+{
+    let begun = begin(s);
+    if begun.accepted {
+        let heights = s.heights;
+        let slots = s.slots;
+        answer_row(s.m, s.h, begun.e, &heights, &slots, orders);
+    }
+    begun.verdict
+}

@@ -1,0 +1,93 @@
+-- No list uncovers a cassette sooner than by what stands on it, and none one that lies too low: a lift takes away one of what stands on it at most, and moves
+-- no cassette that is covered. Each shaft has its own depth, and numbers may repeat.
+use mathlib.Core.List.{List, []}
+use mathlib.Core.Path.{_≡_, sym, ap, _∙_}
+use Prim.Native.Nat.{ℕ, zero, suc, _+_, _≤_, _<_}
+use native.Mathlib.Decide.{ℕ-discrete, decLt}
+use native.Mathlib.Omega.{arith}
+use lib.ListN.{length}
+use Rattle.stacks.specs.Moves.{lift}
+use Rattle.stacks.proofs.Sums.{sum-le-outside}
+use Rattle.lifts.specs.Bytes.{left, entered}
+use Rattle.store.specs.declared.Store.{Store}
+use Rattle.store.specs.Slots.{depth, height, slot, emptyCount, cassetteCount}
+use Rattle.store.specs.Lifts.{Allowed, lifted}
+use Rattle.store.specs.Lists.{Leads, ended, then}
+use Rattle.store.specs.Sound.{Shaped}
+use Rattle.store.proofs.Played.{lift-then}
+use Rattle.store.proofs.Views.{Moved, lift-moves, lifted-shaped}
+use Rattle.reach.proofs.Agree.{heights-and-empties}
+use Rattle.reach.proofs.Lasting.{leads-count}
+use Rattle.uncovering.specs.Uncovering.{Uncovered}
+
+-- what is empty above a shaft is part of e
+pub empty-above : (s : Store) → Shaped s → (x : ℕ) → x < s .m → depth s x ≤ height s x + emptyCount s
+empty-above s p x h = omega (arith, heights-and-empties s p, sum-le-outside (s .m) (height s) (depth s) x h (λ i j k. p .heights i))
+
+-- a lift keeps e
+pub lifted-empty : (s : Store) (a b : ℕ) → Shaped s → Allowed s a b → emptyCount (lifted s a b) ≡ emptyCount s
+unfolding emptyCount lifted
+lifted-empty s a b p q =
+    let e : cassetteCount (lifted s a b) ≡ cassetteCount s = leads-count p (lift-then s (lifted s a b) (lift a b) [] (omega (arith, q .entered-below, p .shafts)) q ended) in rw e
+
+-- Every slot that shows c, but those too low, has k cassettes above it at least.
+abbrev pub Under : Store → ℕ → ℕ → Type 0
+Under s c k = (x y : ℕ) → x < s .m → 0 < y → y ≤ height s x → slot s x y ≡ c → depth s x ≤ y + emptyCount s → k + y ≤ height s x
+
+module _ (s : Store) (a b : ℕ) (p : Shaped s) (q : Allowed s a b) where
+  abbrev t : Store
+  t = lifted s a b
+
+  moved : Moved s a b t
+  moved = lift-moves s a b p q
+
+  -- a height falls by one at most
+  lower-by-one : (x : ℕ) → height s x ≤ suc (height t x)
+  lower-by-one x =
+      elim (ℕ-discrete x a) [
+        | yes i ↦ omega (arith, moved .lower, ap (height s) i, ap (height t) i)
+        | no i ↦ elim (ℕ-discrete x b) [
+          | yes j ↦ omega (arith, moved .higher, ap (height s) j, ap (height t) j)
+          | no j ↦ omega (arith, moved .others x i j)
+        ]
+      ]
+
+  -- what a row shows after the lift, it showed before, or it is the cassette lifted
+  data Shown (x y : ℕ) : Type 0 where
+    before : y ≤ height s x → slot t x y ≡ slot s x y → Shown x y
+    lifted-here : slot t x y ≡ slot s a (height s a) → Shown x y
+
+  kept-row : (x k : ℕ) → x < s .m → k < height s x → k < height t x → Shown x (suc k)
+  kept-row x k h l i =
+      before (omega arith)
+      (moved .kept x k (omega (arith, p .shafts)) (omega (arith, p .heights x, p .rows x))
+      (λ z. omega (arith, moved .lower, ap (height t) (z .0))) (λ z. omega (arith, ap (height s) (z .0))))
+
+  shown-after : (x k : ℕ) → x < s .m → k < height t x → Shown x (suc k)
+  shown-after x k h i =
+      elim (decLt k (height s x)) [
+        | yes l ↦ kept-row x k h l i
+        | no l ↦ elim (ℕ-discrete x b) [
+          | yes j ↦ (let e : k ≡ height s b = omega (arith, moved .higher, ap (height s) j, ap (height t) j) in
+              lifted-here (rw (j, e) (moved .placed)))
+          | no j ↦ elim (ℕ-discrete x a) [
+            | yes n ↦ absurd (omega (arith, moved .lower, ap (height s) n, ap (height t) n))
+            | no n ↦ absurd (omega (arith, moved .others x n j))
+          ]
+        ]
+      ]
+
+  lift-under : (c k : ℕ) → Under s c (suc k) → Under t c k
+  unfolding lifted
+  lift-under c k u x zero h i j e f = absurd (omega arith)
+  lift-under c k u x (suc y) h i j e f = go (shown-after x y h j)
+    where
+      go : Shown x (suc y) → k + suc y ≤ height t x
+      go (before l r) = omega (arith, lower-by-one x, u x (suc y) h i l (sym r ∙ e) (omega (arith, lifted-empty s a b p q)))
+      go (lifted-here r) = absurd (omega (arith, u a (height s a) (q .left-below) (q .taken) (omega arith) (sym r ∙ e) (empty-above s p a (q .left-below))))
+
+-- A list that uncovers c has k lifts at least, where k cassettes stand on each c that is not too low.
+pub none-sooner : {s t : Store} {bs : List ℕ} {c : ℕ} → Shaped s → Leads s bs t → Uncovered t c → (k : ℕ) → Under s c k → k ≤ length bs
+none-sooner {s} p ended w k u = omega (arith, u (w .shaft) (height s (w .shaft)) (w .below) (w .some) (omega arith) (w .top) (empty-above s p (w .shaft) (w .below)))
+none-sooner p (then q r) w zero u = omega arith
+none-sooner p (then {s} {t} {b} {bs} q r) w (suc k) u = omega (arith, none-sooner (lifted-shaped s (left b) (entered b) p q) r w k (lift-under s (left b) (entered b) p q _ k u))

@@ -1,0 +1,70 @@
+-- "No cassette stands twice in a store" (document 01): an accepted store shows a number in one place at most.
+use borrow.Author.Tests.{eq-eqb}
+use mathlib.Core.Path.{_≡_, sym, ap}
+use Prim.Native.Nat.{ℕ, zero, suc, _≤_, _<_}
+use native.Mathlib.Decide.{ℕ-discrete, decLt}
+use native.Mathlib.Omega.{arith}
+use Rattle.stacks.specs.Count.{one, count, sum, occurrences}
+use Rattle.stacks.proofs.Sums.{term-le-sum, sum-le-outside-two}
+use Rattle.marks.proofs.Takes.{none-repeats}
+use Rattle.rows.specs.Rows.{rowsDown}
+use Rattle.store.specs.declared.Store.{Store}
+use Rattle.store.specs.Slots.{height, slot, downward, stack}
+use Rattle.store.specs.Accept.{Accepted}
+use Rattle.store.proofs.Acceptance.{accepted-sound}
+use Rattle.reach.proofs.Agree.{occurrences-agree}
+use Rattle.reach.proofs.Lasting.{row-counted}
+
+module _ (s : Store) (p : Accepted s) (c : ℕ) where
+  -- how often c stands in the rows of a shaft
+  abbrev in-shaft : ℕ → ℕ
+  in-shaft x = count c (stack s x)
+
+  stands-once : sum (s .m) in-shaft ≤ 1
+  unfolding occurrences
+  stands-once = omega (arith, occurrences-agree s c, accepted-sound s p .once c (none-repeats c))
+
+  -- two rows of a shaft that show c count twice
+  rows-twice : (x n j k : ℕ) → j < k → k < n → slot s x (suc j) ≡ c → slot s x (suc k) ≡ c → 1 < count c (downward s x n)
+  unfolding rowsDown count
+  rows-twice x zero j k h i e f = absurd (omega arith)
+  rows-twice x (suc n) j k h i e f =
+      elim (ℕ-discrete k n) [
+        | yes g ↦ (let f′ : c ≡ slot s x (suc n) = rw g at (sym f) in omega (arith, ap one (eq-eqb c (slot s x (suc n)) f′), row-counted s c x n j (omega arith) e))
+        | no g ↦ omega (arith, rows-twice x n j k h (omega arith) e f)
+      ]
+
+  -- a shaft that shows c counts, and shows it in one row
+  counted : (x j : ℕ) → j < height s x → slot s x (suc j) ≡ c → 0 < in-shaft x
+  unfolding stack
+  counted x j i e = row-counted s c x (height s x) j i e
+
+  not-above : (x j k : ℕ) → x < s .m → j < k → k < height s x → slot s x (suc j) ≡ c → slot s x (suc k) ≡ c → ⊥
+  unfolding stack
+  not-above x j k h l i e f = omega (arith, stands-once, term-le-sum (s .m) in-shaft x h, rows-twice x (height s x) j k l i e f)
+
+  one-row : (x j k : ℕ) → x < s .m → j < height s x → k < height s x → slot s x (suc j) ≡ c → slot s x (suc k) ≡ c → j ≡ k
+  one-row x j k h i l e f =
+      elim (decLt j k) [
+        | yes u ↦ absurd (not-above x j k h u l e f)
+        | no u ↦ elim (decLt k j) [ yes v ↦ absurd (not-above x k j h v i f e) | no v ↦ omega arith ]
+      ]
+
+  one-shaft : (x j y k : ℕ) → x < s .m → y < s .m → j < height s x → k < height s y → slot s x (suc j) ≡ c → slot s y (suc k) ≡ c → x ≡ y
+  one-shaft x j y k h g i l e f =
+      elim (ℕ-discrete x y) [
+        | yes u ↦ u
+        | no u ↦ absurd (omega (
+          arith,
+          stands-once,
+          counted x j i e,
+          counted y k l f,
+          sum-le-outside-two (s .m) (λ i. 0) in-shaft x y u h g (λ i n v w. omega arith),
+        ))
+      ]
+
+  -- so the places where it stands are the same
+  pub one-place : (x j y k : ℕ) → x < s .m → y < s .m → j < height s x → k < height s y → slot s x (suc j) ≡ c → slot s y (suc k) ≡ c → (x ≡ y) × (j ≡ k)
+  one-place x j y k h g i l e f =
+      let u = one-shaft x j y k h g i l e f in
+      (u, one-row x j k h i (rw u l) e (rw u f))

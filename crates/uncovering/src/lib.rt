@@ -1,0 +1,87 @@
+// How deep a cassette is buried (document 02, 1/13): "the fewest lifts after which nothing stands on a named cassette". The store is lent as its two
+// arrays, so that no order costs a copy of it.
+use depths::depth_of;
+use lifts::Heights;
+use lifts::Slots;
+use lifts::height_at;
+use lifts::slot_at;
+use rules::floor_rows;
+ghost use mathlib.Core.Path.{_≡_};
+ghost use Prim.Native.Nat.{_≤_, _<_};
+ghost use Rattle.lifts.specs.Lifting.{mostShafts, mostRows};
+ghost use Rattle.store.specs.Slots.{held};
+ghost use Rattle.uncovering.specs.Numbers.{uncoveringNumber, uncoveringLifts};
+ghost use Rattle.uncovering.specs.Uncovering.{Lent};
+ghost use Rattle.uncovering.specs.Promises.{UncoveringIs, TopRowIs};
+
+// How an order is answered: after so many lifts nothing stands on the cassette; it isn't in the store, 16; no list of legal lifts uncovers it, 17.
+pub enum Uncovering {
+    After(u8),
+    Absent,
+    Buried,
+}
+
+// The number of an answer, 0 where the cassette can be uncovered.
+pub fn uncovering_number(a: Uncovering) -> u8
+    ensures { λ r. ⌜ r ≡ uncoveringNumber a ⌝ }
+{
+    match a {
+        Uncovering::After(_) => 0,
+        Uncovering::Absent => 16,
+        Uncovering::Buried => 17,
+    }
+}
+
+// The lifts of an answer, 0 where the order fails.
+pub fn uncovering_lifts(a: Uncovering) -> u8
+    ensures { λ r. ⌜ r ≡ uncoveringLifts a ⌝ }
+{
+    match a {
+        Uncovering::After(lifts) => lifts,
+        Uncovering::Absent => 0,
+        Uncovering::Buried => 0,
+    }
+}
+
+// The highest of rows 1 to `rows` of a shaft that shows a number, 0 for none.
+fn top_row(slots: &Slots, x: usize, rows: u8, number: u16) -> u8
+    requires { ⌜ (x < mostShafts) × (rows ≤ mostRows) ⌝ }
+    ensures { λ r. ⌜ TopRowIs (now (slots .entry)) x rows number r ⌝ }
+{
+    let mut row = rows;
+    while 0 < row {
+        if slot_at(slots, 16 * x + (row as usize - 1)) as u16 == number {
+            return row;
+        }
+        row -= 1;
+    }
+    0
+}
+
+// The fewest lifts that uncover a cassette, by its number: from the highest row that shows it in the first shaft that does.
+pub fn fewest_lifts<'a>(
+    m: u8,
+    h: u8,
+    e: usize,
+    heights: &'a Heights,
+    slots: &'a Slots,
+    number: u16,
+) -> Uncovering
+    requires { ⌜ Lent (held m h (now heights) (now slots)) e ⌝ }
+    ensures { λ r. ⌜ UncoveringIs (held m h (now (heights .entry)) (now (slots .entry))) number r ⌝ }
+{
+    let shafts = m as usize;
+    let mut x: usize = 0;
+    while x < shafts {
+        let rows = height_at(heights, x);
+        let row = top_row(slots, x, rows, number);
+        if row != 0 {
+            if (row as usize) < floor_rows(depth_of(h, x), e) {
+                return Uncovering::Buried;
+            }
+            return Uncovering::After(rows - row);
+        }
+        x += 1;
+    }
+    Uncovering::Absent
+}
