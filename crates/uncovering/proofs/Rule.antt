@@ -29,7 +29,7 @@ module _ (s : Store) (p : Accepted s) (c x k : ℕ) (h : x < s .m) (i : k < heig
         list = w .list;
         uncovers = w .uncovers;
         count = w .count;
-        least = λ other u. none-sooner (accepted-shaped s p) (u .leads) (u .uncovered) (height s x - suc k) (under (height s x - suc k) (λ g. omega arith));
+        least = λ other u. omega (arith, w .count, none-sooner (accepted-shaped s p) (u .leads) (u .uncovered) (height s x - suc k) (under (height s x - suc k) (λ g. omega arith)));
       }
 
   pub never-uncovered : (depth s x - emptyCount s ≤ suc k → ⊥) → (list : List ℕ) → Uncovers s c list → ⊥

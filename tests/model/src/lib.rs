@@ -1,4 +1,4 @@
-//! Stores, images, lifts, a full search and the reachability rule of document 01, written from that document alone.
+//! Stores, images, lifts, a full search and the reachability rule of document 01, and the orders of document 02, written from those documents alone.
 //!
 //! Nothing here is proved. The outside tests compare the proved library with it, and the tool and the benchmark use it.
 
@@ -9,6 +9,7 @@ pub mod rule;
 pub mod search;
 pub mod store;
 pub mod text;
+pub mod uncover;
 
 pub use random::Random;
 pub use store::Store;

@@ -126,6 +126,49 @@ fn extend_every(store: &Store, shaft: usize, left: &[u8], stores: &mut Vec<Store
     }
 }
 
+/// Some stores, with those that one lift leads to from each.
+pub struct Lifts<'a> {
+    stores: &'a [Store],
+    next: Vec<Vec<usize>>,
+}
+
+impl<'a> Lifts<'a> {
+    /// Of stores among which each is that a lift leads to.
+    pub fn between(stores: &'a [Store]) -> Lifts<'a> {
+        let places: HashMap<_, _> = stores.iter().map(image::write).zip(0..).collect();
+        let after = |store: &Store, lift| {
+            let mut next = store.clone();
+            play::lift(&mut next, lift).expect("a legal lift");
+            places[&image::write(&next)]
+        };
+        let lifts = |store| play::legal_lifts(store).into_iter();
+        let next = stores
+            .iter()
+            .map(|store| lifts(store).map(|lift| after(store, lift)).collect())
+            .collect();
+        Lifts { stores, next }
+    }
+
+    /// For each store, the fewest lifts after which one is met that is as wanted, or none where no lifts lead to one.
+    pub fn fewest(&self, wanted: impl Fn(&Store) -> bool) -> Vec<Option<usize>> {
+        let here = |store| wanted(store).then_some(0);
+        let mut fewest: Vec<_> = self.stores.iter().map(here).collect();
+        for lifts in 1.. {
+            let met = |&at: &usize| fewest[at] == Some(lifts - 1);
+            let now: Vec<usize> = (0..fewest.len())
+                .filter(|&at| fewest[at].is_none() && self.next[at].iter().any(met))
+                .collect();
+            if now.is_empty() {
+                break;
+            }
+            for at in now {
+                fewest[at] = Some(lifts);
+            }
+        }
+        fewest
+    }
+}
+
 #[cfg(test)]
 mod tests {
     use super::*;
@@ -159,6 +202,18 @@ mod tests {
         assert!(search.ended());
         assert_eq!(search.list_to(&goal).unwrap().len(), 3);
         assert!(play::leads(&start, &search.list_to(&goal).unwrap(), &goal));
+    }
+
+    #[test]
+    fn fewest_lifts_to_a_store() {
+        let stores = every_store(3, 1, &[1, 2]);
+        let (from, to) = (store("3x1: [1] [2] []"), store("3x1: [2] [1] []"));
+        let fewest = Lifts::between(&stores).fewest(|it| *it == to);
+        for (it, fewest) in stores.iter().zip(fewest) {
+            let search = Search::towards(it, &to, 100);
+            assert_eq!(fewest, search.list_to(&to).map(|list| list.len()));
+            assert!(*it != from || fewest == Some(3));
+        }
     }
 
     #[test]

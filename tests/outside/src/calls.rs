@@ -1,10 +1,20 @@
-//! The four C calls, each on guarded bytes.
+//! The five C calls, each on guarded bytes and orders.
 
-use crate::guarded::Guarded;
+use crate::guarded::{Guarded, Noise};
 use halyard_model::Random;
 
 pub mod c {
     //! As include/halyardgage.h declares them.
+
+    /// `struct halyard_order`.
+    #[repr(C)]
+    #[derive(Clone, Copy, Debug, PartialEq, Eq)]
+    pub struct Order {
+        pub cassette: u16,
+        pub number: u8,
+        pub lifts: u8,
+    }
+
     unsafe extern "C" {
         pub fn halyard_check(image: *const u8, image_len: usize) -> u64;
         pub fn halyard_reachable(
@@ -29,6 +39,32 @@ pub mod c {
             out: *mut u8,
             out_len: usize,
         ) -> u64;
+        pub fn halyard_uncover(
+            image: *const u8,
+            image_len: usize,
+            orders: *mut Order,
+            orders_len: usize,
+        ) -> u64;
+    }
+}
+
+pub use c::Order;
+
+impl Order {
+    /// An order for a cassette, with noise where its answer goes.
+    pub fn naming(cassette: u16, random: &mut Random) -> Order {
+        Order {
+            cassette,
+            number: random.byte(),
+            lifts: random.byte(),
+        }
+    }
+}
+
+impl Noise for Order {
+    fn noise(random: &mut Random, count: usize) -> Vec<Order> {
+        let any = |_| Order::naming(random.word() as u16, random);
+        (0..count).map(any).collect()
     }
 }
 
@@ -56,9 +92,9 @@ impl Answer {
 }
 
 /// A call's answer, and the lent space after it.
-pub struct Written {
+pub struct Written<T = u8> {
     pub answer: Answer,
-    pub space: Guarded,
+    pub space: Guarded<T>,
 }
 
 /// Makes the calls, with noise from a generator of its own, and sees after each that what it was given to read is unchanged.
@@ -159,6 +195,25 @@ impl Caller {
         Written {
             answer: self.answer(bits),
             space: out,
+        }
+    }
+
+    pub fn uncover(&mut self, image: &[u8], orders: &[Order]) -> Written<Order> {
+        let mut image = self.holding(image);
+        let mut orders = Guarded::holding(&mut self.random, self.guard, orders);
+        // SAFETY: each pointer has as many bytes or orders as are named, and the two do not overlap.
+        let bits = unsafe {
+            c::halyard_uncover(
+                image.pointer(),
+                image.size(),
+                orders.pointer(),
+                orders.size(),
+            )
+        };
+        assert!(image.kept_but(0), "uncover wrote to its image or beside it");
+        Written {
+            answer: self.answer(bits),
+            space: orders,
         }
     }
 }

@@ -1,6 +1,6 @@
-//! One comparison of each call with what document 01 has it answer and write.
+//! One comparison of each call with what documents 01 and 02 have it answer and write.
 
-use crate::calls::{Answer, Caller};
+use crate::calls::{Answer, Caller, Order};
 use crate::expected;
 use halyard_model::{Store, image, play, text};
 
@@ -64,6 +64,25 @@ pub fn replay(caller: &mut Caller, image: &[u8], list: &[u8], out_len: usize) {
     assert!(
         out.kept_but(bytes.len()),
         "bytes past the image: {}",
+        about()
+    );
+}
+
+/// Compares a row of orders.
+pub fn uncover(caller: &mut Caller, image: &[u8], orders: &[Order]) {
+    let (answer, row) = expected::uncover(image, orders);
+    row_is(caller, image, orders, answer, &row);
+}
+
+/// Compares a row of orders with what it should be after the call.
+pub fn row_is(caller: &mut Caller, image: &[u8], orders: &[Order], answer: Answer, row: &[Order]) {
+    let written = caller.uncover(image, orders);
+    let about = || format!("orders {orders:?}, {}", show(image));
+    assert_eq!(written.answer, answer, "{}", about());
+    assert_eq!(written.space.content(), row, "{}", about());
+    assert!(
+        written.space.kept_but(orders.len()),
+        "beside the row: {}",
         about()
     );
 }

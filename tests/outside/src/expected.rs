@@ -1,7 +1,7 @@
-//! What document 01 has the calls answer, worked out from the model.
+//! What documents 01 and 02 have the calls answer, worked out from the model.
 
-use crate::calls::Answer;
-use halyard_model::{Store, image, play, rule};
+use crate::calls::{Answer, Order};
+use halyard_model::{Store, image, play, rule, uncover};
 
 /// The answer of a check.
 pub fn check(bytes: &[u8]) -> Answer {
@@ -39,4 +39,28 @@ pub fn replay(image: &[u8], list: &[u8], out_len: usize) -> (Answer, Vec<u8>) {
     };
     let end = play::replay(&store, list);
     (Answer::of(end.number, end.count), image::write(&end.store))
+}
+
+/// What a row of orders answers, and the row after it: as it came where the image is refused.
+pub fn uncover(image: &[u8], orders: &[Order]) -> (Answer, Vec<Order>) {
+    match image::read(image) {
+        Err(number) => (Answer::of(number, 0), orders.to_vec()),
+        Ok(store) => {
+            let after = |order: &Order| answered(*order, uncover::uncover(&store, order.cassette));
+            (Answer::of(0, 0), orders.iter().map(after).collect())
+        }
+    }
+}
+
+/// An order with its answer.
+pub fn answered(order: Order, answer: Result<usize, u8>) -> Order {
+    let (number, lifts) = match answer {
+        Ok(lifts) => (0, lifts),
+        Err(number) => (number, 0),
+    };
+    Order {
+        number,
+        lifts: u8::try_from(lifts).expect("at most 15 lifts"),
+        ..order
+    }
 }

@@ -1,21 +1,32 @@
-//! Bytes passed to a call, between guard bytes.
+//! Bytes or orders passed to a call, between guards.
 
 use halyard_model::Random;
 
-/// Guard bytes on each side that the tests use.
+/// Guards on each side that the tests use, in bytes or in orders.
 pub const GUARD: usize = 64;
 
-/// Bytes between two guards of noise, and a copy of all of it from before the call.
-pub struct Guarded {
-    guard: usize,
-    before: Vec<u8>,
-    now: Vec<u8>,
+/// What a guard is made of.
+pub trait Noise: Copy + PartialEq {
+    fn noise(random: &mut Random, count: usize) -> Vec<Self>;
 }
 
-impl Guarded {
+impl Noise for u8 {
+    fn noise(random: &mut Random, count: usize) -> Vec<u8> {
+        random.bytes(count)
+    }
+}
+
+/// Bytes or orders between two guards of noise, and a copy of all of it from before the call.
+pub struct Guarded<T = u8> {
+    guard: usize,
+    before: Vec<T>,
+    now: Vec<T>,
+}
+
+impl<T: Noise> Guarded<T> {
     /// Content to be read by a call.
-    pub fn holding(random: &mut Random, guard: usize, content: &[u8]) -> Guarded {
-        let mut before = random.bytes(guard + content.len() + guard);
+    pub fn holding(random: &mut Random, guard: usize, content: &[T]) -> Guarded<T> {
+        let mut before = T::noise(random, guard + content.len() + guard);
         before[guard..guard + content.len()].copy_from_slice(content);
         Guarded {
             guard,
@@ -25,13 +36,13 @@ impl Guarded {
     }
 
     /// Space to be written by a call, full of noise.
-    pub fn space(random: &mut Random, guard: usize, len: usize) -> Guarded {
-        let noise = random.bytes(len);
+    pub fn space(random: &mut Random, guard: usize, len: usize) -> Guarded<T> {
+        let noise = T::noise(random, len);
         Guarded::holding(random, guard, &noise)
     }
 
     /// Where the content starts. It is derived from `&mut` so that a write through it, though forbidden, is seen.
-    pub fn pointer(&mut self) -> *mut u8 {
+    pub fn pointer(&mut self) -> *mut T {
         self.now[self.guard..].as_mut_ptr()
     }
 
@@ -41,11 +52,11 @@ impl Guarded {
     }
 
     /// The content as it is now.
-    pub fn content(&self) -> &[u8] {
+    pub fn content(&self) -> &[T] {
         &self.now[self.guard..self.guard + self.size()]
     }
 
-    /// Every byte except the first `count` of the content is as it was, guards included.
+    /// Everything except the first `count` of the content is as it was, guards included.
     pub fn kept_but(&self, count: usize) -> bool {
         let written = self.guard..self.guard + count;
         self.now[..written.start] == self.before[..written.start]

@@ -1,5 +1,6 @@
-//! Random inputs for the calls: pairs of stores, damaged images, lists.
+//! Random inputs for the calls: pairs of stores, damaged images, lists, rows of orders.
 
+use crate::calls::Order;
 use halyard_model::image::{self, Field};
 use halyard_model::store::{MOST_CASSETTE, MOST_DEPTH, MOST_SHAFTS};
 use halyard_model::{Random, Store, play};
@@ -188,4 +189,24 @@ fn any_lift(random: &mut Random, store: &Store) -> u8 {
         return random.byte();
     }
     play::lift_byte(random.below(store.m()), random.below(store.m()))
+}
+
+/// Orders: for cassettes of the store, for the first one again, and for numbers that no slot of it shows.
+pub fn orders(random: &mut Random, store: &Store) -> Vec<Order> {
+    let there = store.cassettes();
+    let count = *random.one_of(&[0, 1, 2, 40, 255, 300]);
+    let mut names: Vec<u16> = Vec::new();
+    for _ in 0..count {
+        let any = random.word() as u16;
+        names.push(match random.below(8) {
+            0 => *random.one_of(&[0, 255, 256, 65_535]),
+            1 => any,
+            2 => any % 256,
+            3 if !names.is_empty() => names[0],
+            _ if there.is_empty() => 1,
+            _ => u16::from(*random.one_of(&there)),
+        });
+    }
+    let order = |name| Order::naming(name, random);
+    names.into_iter().map(order).collect()
 }

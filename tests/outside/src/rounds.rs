@@ -72,12 +72,21 @@ pub fn out_lengths(caller: &mut Caller, random: &mut Random) {
     }
 }
 
+/// A row of orders on a store, and on bytes that are mostly no image.
+pub fn orders(caller: &mut Caller, random: &mut Random) {
+    let store = inputs::store(random);
+    let orders = inputs::orders(random, &store);
+    checks::uncover(caller, &image::write(&store), &orders);
+    checks::uncover(caller, &inputs::damaged(random), &orders);
+}
+
 /// One round of each kind.
 pub fn all(caller: &mut Caller, random: &mut Random) {
     for _ in 0..4 {
         pair(caller, random);
         damage(caller, random);
         replay(caller, random);
+        orders(caller, random);
     }
     list_lengths(caller, random);
     out_lengths(caller, random);

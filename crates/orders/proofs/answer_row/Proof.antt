@@ -200,8 +200,8 @@ module _ {M : Type 1} (𝓤 : URA M) (H : Heap 𝓤) (A : Atoms 𝓤) (W : Given
   place-fits : (i : ℕ) → i < n → i * 4 < 2 ^ 64
   place-fits i small = omega (arith, room .1)
 
-  next-fits : (i : ℕ) → i < n → i + 1 < 2 ^ 64
-  next-fits i small = omega (arith, room .0)
+  next-fits : (i k : ℕ) → i < n → k < 2 ^ 8 → i + k < 2 ^ 64
+  next-fits i k small few = omega (arith, room .1)
 
   one-more : (i : ℕ) → i + 1 ≡ suc i
   one-more i = omega arith
@@ -278,7 +278,7 @@ module _ {M : Type 1} (𝓤 : URA M) (H : Heap 𝓤) (A : Atoms 𝓤) (W : Given
         assigns ! (bin ! (load ! (from ! (fld ! refl (stop !))) (look-in ! 18 (sub ! 0 refl (whole !)))) (load ! (from ! (stop !)) (look ! 11 refl)) tt) (from ! (stop !)) (init ! 12 refl (tt, tt)) $
         rewrite ! 12 (λ (p : ℕ). ‵ (fat fullShare tyPtr l₁₄ 0 (vptr b p))) (sym (place-is 4 o i)) refl $
         assigns ! (of-opd ! (load ! (from ! (stop !)) (look ! 8 refl))) (from ! (hop ! (look ! 12 refl) (stop !))) (store-raw ! 3 refl (typed r v of)) $
-        assigns-last ! (bin ! (load ! (from ! (stop !)) (look ! 5 refl)) (lit ! tt) (record { fits = next-fits i small })) (from ! (stop !)) (store ! 5 refl (tt, record { fits = next-fits i small })) $
+        assigns-last ! (bin ! (load ! (from ! (stop !)) (look ! 5 refl)) (lit ! tt) (record { fits = next-fits i _ small (lit< tt) })) (from ! (stop !)) (store ! 5 refl (tt, record { fits = next-fits i _ small (lit< tt) })) $
         rewrite ! 5 (λ (j : ℕ). ‵ (fat fullShare word l₇ 0 (vint w64 j))) (one-more i) refl $
         forget ! 6 refl $ forget ! 7 refl $ forget ! 8 refl $ forget ! 9 refl $ forget ! 10 refl $ forget ! 11 refl $ forget ! 12 refl $
         -- the cell goes back into the row

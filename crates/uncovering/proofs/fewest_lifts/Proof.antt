@@ -34,17 +34,19 @@ returns c =
     let b = c .before .before .before in
     let l = b .before .before in
     buried _ _ _ _ _ (l .before .loop-test .taken) (l .height-at .ensures) (b .before .top-row .ensures) _ (l .before .before .before .pre) _
-    (c .before .floor-rows .ensures ∙ ap (λ (d : ℕ). d - l .before .before .before .args .e) (c .before .before .depth-of .ensures)) (b .if1 .taken) (c .if2 .taken)
+    (c .before .floor-rows .ensures ∙ ap (λ (d : ℕ). d - l .before .before .before .args .e) (c .before .before .depth-of .ensures)) (b .if1 .taken)
+    (omega (arith, c .if2 .taken, b .before .top-row .ensures .within))
 
 sub-t14 : tie.Need-sub-t14 Inv-loop μ-loop
-sub-t14 c = c .before .before .before .before .top-row .ensures .within
+sub-t14 c = omega (arith, c .before .before .before .before .top-row .ensures .within, c .before .before .before .if1 .taken)
 
 returns-2 : tie.Need-returns-2 Inv-loop μ-loop
 returns-2 c =
     let b = c .before .before .before in
     let l = b .before .before in
     uncovered-after _ _ _ _ _ (l .before .loop-test .taken) (l .height-at .ensures) (b .before .top-row .ensures) _ (l .before .before .before .pre) _
-    (c .before .floor-rows .ensures ∙ ap (λ (d : ℕ). d - l .before .before .before .args .e) (c .before .before .depth-of .ensures)) (b .if1 .taken) (c .if2 .left)
+    (c .before .floor-rows .ensures ∙ ap (λ (d : ℕ). d - l .before .before .before .args .e) (c .before .before .depth-of .ensures)) (b .if1 .taken)
+    (omega (arith, c .if2 .left))
 
 loop-again : tie.Need-loop-again Inv-loop μ-loop
 loop-again c =

@@ -21,12 +21,12 @@ slot-at-requires c κs = omega (arith, c .before .before .pre, c .before .loop .
 returns : tie.Need-returns Inv-loop μ-loop
 returns c =
     let i = c .before .before .before .loop .inv in
-    row-found _ _ _ _ _ _ (c .before .before .loop-test .taken) (i .1) (c .before .slot-at .ensures) (i .0) (c .if1 .taken)
+    row-found _ _ _ _ _ _ (omega (arith, c .before .before .loop-test .taken)) (i .1) (c .before .slot-at .ensures) (i .0) (c .if1 .taken)
 
 loop-again : tie.Need-loop-again Inv-loop μ-loop
 loop-again c =
     let i = c .before .before .before .loop .inv in
-    (omega (arith, i .0), row-passed _ _ _ _ _ _ (c .before .before .loop-test .taken) (i .1) (c .before .slot-at .ensures) (c .if1 .left))
+    (omega (arith, i .0), row-passed _ _ _ _ _ _ (omega (arith, c .before .before .loop-test .taken)) (i .1) (c .before .slot-at .ensures) (c .if1 .left))
 
 returns-2 : tie.Need-returns-2 Inv-loop μ-loop
 returns-2 c = no-row _ _ _ _ _ (c .loop-test .left) (c .before .loop .inv .1)

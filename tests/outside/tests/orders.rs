@@ -1,0 +1,166 @@
+//! Rows of orders (document 02, 1/13): every cassette of every store of the shapes with at most six slots against a full search for the fewest lifts, and
+//! random rows.
+
+use halyard_model::search::{Lifts, every_store};
+use halyard_model::{Random, Store, image, text, uncover};
+use halyard_outside::calls::{Answer, Caller, Order, c};
+use halyard_outside::{checks, expected, guarded::GUARD, rounds};
+use std::ptr::null_mut;
+
+const SLOTS: usize = 6;
+
+/// Names that no slot shows: 0, the numbers just past what a slot can hold, the greatest, and one that is absent.
+fn absent(cassettes: &[u8]) -> Vec<u16> {
+    let free = (1..=255).find(|cassette| !cassettes.contains(cassette));
+    let mut absent = vec![0, 256, 257, 65_535];
+    absent.extend(free.map(u16::from));
+    absent
+}
+
+/// Every store with these cassettes: a row that names each of them, each twice, and some that are absent, answered as the search has it. The rule that the
+/// other tests go by agrees with the search too.
+fn compare_all(caller: &mut Caller, random: &mut Random, m: usize, h: usize, cassettes: &[u8]) {
+    let stores = every_store(m, h, cassettes);
+    let lifts = Lifts::between(&stores);
+    let there: Vec<u16> = cassettes.iter().copied().map(u16::from).collect();
+    let fewest: Vec<Vec<Option<usize>>> = there
+        .iter()
+        .map(|&cassette| lifts.fewest(|store| uncover::uncovered(store, cassette)))
+        .collect();
+    for (at, store) in stores.iter().enumerate() {
+        let found = fewest.iter().map(|fewest| fewest[at].ok_or(17));
+        let mut answers: Vec<_> = there.iter().copied().zip(found).collect();
+        answers.extend(absent(cassettes).into_iter().map(|name| (name, Err(16))));
+        answers.extend_from_within(..there.len());
+        compare_row(caller, random, store, &answers);
+    }
+}
+
+fn compare_row(
+    caller: &mut Caller,
+    random: &mut Random,
+    store: &Store,
+    answers: &[(u16, Result<usize, u8>)],
+) {
+    let mut orders = Vec::new();
+    let mut row = Vec::new();
+    for &(name, answer) in answers {
+        assert_eq!(uncover::uncover(store, name), answer, "{name} of {store:?}");
+        let order = Order::naming(name, random);
+        orders.push(order);
+        row.push(expected::answered(order, answer));
+    }
+    checks::row_is(
+        caller,
+        &image::write(store),
+        &orders,
+        Answer::of(0, 0),
+        &row,
+    );
+}
+
+#[test]
+fn every_cassette_of_every_small_store() {
+    let mut caller = Caller::new(41, GUARD);
+    let mut random = Random::new(41);
+    for m in 1..=SLOTS {
+        for h in 1..=SLOTS / m {
+            for n in 0..=m * h {
+                let cassettes = random.cassettes(n);
+                compare_all(&mut caller, &mut random, m, h, &cassettes);
+            }
+        }
+    }
+}
+
+#[test]
+fn random_rows() {
+    let mut random = Random::new(42);
+    let mut caller = Caller::new(random.word(), GUARD);
+    for _ in 0..10_000 {
+        rounds::orders(&mut caller, &mut random);
+    }
+    for number in [0, 1, 2, 3, 4, 5, 7] {
+        assert!(caller.answers_with(number) > 100, "{number} is rare");
+    }
+}
+
+/// The row of every number that a record can name, on a full store of 255 cassettes and on a store with room.
+#[test]
+fn every_name() {
+    let mut random = Random::new(43);
+    let mut caller = Caller::new(43, GUARD);
+    for (m, h, n) in [(16, 16, 255), (16, 16, 240), (3, 16, 40), (1, 16, 9)] {
+        let image = image::write(&random.store(m, h, n));
+        let orders: Vec<_> = (0..=65_535)
+            .map(|name| Order::naming(name, &mut random))
+            .collect();
+        checks::uncover(&mut caller, &image, &orders);
+    }
+}
+
+/// Answers written out: `[1 4 5 6] [2 7 8] [3 9]` of depth 4 has three empty slots, so row 1 is as low as can be uncovered; with one cassette more it is not.
+#[test]
+fn answers_by_hand() {
+    let named = |cassette, number, lifts| Order {
+        cassette,
+        number,
+        lifts,
+    };
+    let crowded = [
+        named(1, 0, 3),
+        named(7, 0, 1),
+        named(9, 0, 0),
+        named(0, 16, 0),
+    ];
+    answered("3x4: [1 4 5 6] [2 7 8] [3 9]", &crowded);
+    let fuller = [
+        named(1, 17, 0),
+        named(4, 0, 2),
+        named(11, 16, 0),
+        named(4, 0, 2),
+    ];
+    answered("3x4: [1 4 5 6] [2 7 8] [3 9 10]", &fuller);
+}
+
+fn answered(store: &str, row: &[Order]) {
+    let mut random = Random::new(44);
+    let image = image::write(&text::read(store).unwrap());
+    let orders: Vec<_> = row
+        .iter()
+        .map(|order| Order::naming(order.cassette, &mut random))
+        .collect();
+    let caller = &mut Caller::new(44, GUARD);
+    checks::row_is(caller, &image, &orders, Answer::of(0, 0), row);
+}
+
+/// A refused image leaves the row, whatever it holds.
+#[test]
+fn refused_images() {
+    let mut caller = Caller::new(45, GUARD);
+    let mut random = Random::new(45);
+    let image = image::write(&random.store(3, 2, 4));
+    let orders: Vec<_> = (0..300)
+        .map(|name| Order::naming(name, &mut random))
+        .collect();
+    for (bytes, number) in [
+        (&[][..], 2),
+        (&[0x10], 1),
+        (&image[..image.len() - 1], 2),
+        (&[&image[..], &[0]].concat(), 7),
+    ] {
+        checks::row_is(&mut caller, bytes, &orders, Answer::of(number, 0), &orders);
+    }
+}
+
+/// NULL is taken where there is no order.
+#[test]
+fn null_with_length_0() {
+    let image = image::write(&text::read("3x1: [1] [2] []").unwrap());
+    // SAFETY: the image has as many bytes as are named, NULL none, and there is no order.
+    unsafe {
+        let none = c::halyard_uncover(image.as_ptr(), image.len(), null_mut(), 0);
+        assert_eq!(none, 0);
+        assert_eq!(c::halyard_uncover(null_mut(), 0, null_mut(), 0), 2);
+    }
+}
