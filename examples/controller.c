@@ -1,7 +1,7 @@
 /*
  * How a controller uses Halyardgage: check two images, ask whether the goal
- * can be reached, plan the lifts, and replay them. Then some of the ways in
- * which a call is refused.
+ * can be reached, plan the lifts, and replay them. Then how deep some cassettes
+ * are buried, and some of the ways in which a call is refused.
  *
  *     cc -Iinclude examples/controller.c -Ltarget/staticlib -lhalyardgage
  */
@@ -97,6 +97,8 @@ static const char *meaning(int number)
     case HALYARD_SHAFT_EMPTY: return "the shaft left is empty";
     case HALYARD_SHAFT_FULL: return "the shaft entered is full";
     case HALYARD_UNREACHABLE: return "no list of lifts leads to the goal";
+    case HALYARD_ABSENT: return "it is not in the store";
+    case HALYARD_BURIED: return "no list of lifts uncovers it";
     default: return "a number that no call returns";
     }
 }
@@ -181,6 +183,29 @@ static int planned(const struct image *start, const struct image *goal,
     return memcmp(end.bytes, goal->bytes, goal->len) == 0;
 }
 
+/* Asks how deep some cassettes of a store are buried, and prints the answers.
+ * Gives whether the store was accepted. */
+static int asked(const struct image *store, struct halyard_order *orders,
+                 size_t count)
+{
+    size_t i;
+    uint64_t answer = halyard_uncover(store->bytes, store->len, orders, count);
+    if (!good("uncover", answer, "answered")) {
+        return 0;
+    }
+    for (i = 0; i < count; ++i) {
+        const struct halyard_order *order = &orders[i];
+        if (order->number == HALYARD_OK) {
+            printf("  cassette %u: %u to lift away\n", order->cassette,
+                   order->lifts);
+        } else {
+            printf("  cassette %u: number %d, %s\n", order->cassette,
+                   order->number, meaning(order->number));
+        }
+    }
+    return 1;
+}
+
 /* Some of the ways in which a call is refused. */
 static void refusals(const struct image *start, const struct image *goal)
 {
@@ -215,15 +240,23 @@ int main(void)
     struct image goal = pack(2, 4, two_goal);
     struct image start3 = pack(3, 4, three);
     struct image goal3 = pack(3, 4, three_goal);
-    int ended_at_goals;
+    static const uint8_t fuller[] = {1, 4, 5, 6, 0, 2, 7, 8, 0, 3, 9, 10, 0};
+    struct image store = pack(3, 4, fuller);
+    struct halyard_order orders[] = {
+        {7, 0, 0}, {4, 0, 0}, {1, 0, 0}, {10, 0, 0}, {11, 0, 0}};
+    int all_good;
 
     printf("Two shafts of depth 4\n");
-    ended_at_goals = planned(&start, &goal, 1);
+    all_good = planned(&start, &goal, 1);
 
     printf("\nThree shafts of depth 4, nine cassettes: at most %u lifts\n",
            (unsigned)HALYARD_LIST_SPACE(4, 9));
-    ended_at_goals &= planned(&start3, &goal3, 0);
+    all_good &= planned(&start3, &goal3, 0);
+
+    printf("\nHow deep some cassettes are buried\n");
+    print_store("store", &store);
+    all_good &= asked(&store, orders, sizeof orders / sizeof orders[0]);
 
     refusals(&start, &goal);
-    return ended_at_goals ? 0 : 1;
+    return all_good ? 0 : 1;
 }

@@ -15,6 +15,9 @@
  * LISTS. A list is bytes, one for each lift: the shaft left in the high four
  * bits, the shaft entered in the low four.
  *
+ * ORDERS. An order is a record that names a cassette and receives an answer of
+ * its own: a number, and a count of lifts. They come in a row.
+ *
  * ANSWERS. Each call returns count * 256 + number. halyard_number() and
  * halyard_count() take the two apart. The count has 56 bits: of a greater one
  * the low 56 bits are given, which only a replay of 2^56 lifts or more could
@@ -25,18 +28,21 @@
  *     of reading comes before any other;
  *   - for two stores then 8, 9, 10, 15;
  *   - for a replay then 10, before any lift is tried, and for each lift 11,
- *     13, 14.
+ *     13, 14;
+ *   - for an order, in its own record, 16, 17. An order that fails does not
+ *     make the call fail.
  * A refused call returns count 0 and writes nothing.
  *
  * WHAT THE CALLER OWES
- *   - Each pointer has at least as many bytes as the length after it says. It
- *     may be NULL where that length is 0.
- *   - Bytes that a call may write (list of halyard_plan, out of
- *     halyard_replay) overlap nothing else that is passed. Bytes that are only
- *     read may overlap: start and goal may be the same bytes.
+ *   - Each pointer has at least as many bytes, or orders, as the length after
+ *     it says. It may be NULL where that length is 0.
+ *   - What a call may write (list of halyard_plan, out of halyard_replay,
+ *     orders of halyard_uncover) overlaps nothing else that is passed. Bytes
+ *     that are only read may overlap: start and goal may be the same bytes.
  *   - No other thread writes to any of the bytes during the call.
  * Lent space need not be cleared. Nothing else is asked: any bytes may be
- * passed as an image or as a list, and a call refuses what is none.
+ * passed as an image or as a list, and a call refuses what is none; an order
+ * may name any number and hold anything where its answer goes.
  *
  * The library allocates nothing and keeps nothing between calls, so that any
  * thread may call it at any time.
@@ -77,7 +83,18 @@ enum {
     /* refused because of the state */
     HALYARD_SHAFT_EMPTY = 13, /* the shaft left is empty */
     HALYARD_SHAFT_FULL = 14,  /* the shaft entered is full */
-    HALYARD_UNREACHABLE = 15  /* the goal is not reachable */
+    HALYARD_UNREACHABLE = 15, /* the goal is not reachable */
+
+    /* of an order, in its own record */
+    HALYARD_ABSENT = 16, /* the cassette is not in the store, 0 included */
+    HALYARD_BURIED = 17  /* no list of lifts uncovers the cassette */
+};
+
+/* An order: the cassette that it names, and its answer. It has four bytes. */
+struct halyard_order {
+    uint16_t cassette; /* stays as it came */
+    uint8_t number;    /* HALYARD_OK, HALYARD_ABSENT or HALYARD_BURIED */
+    uint8_t lifts;     /* the fewest lifts, or 0 where the order fails */
 };
 
 /* The longest image, in bytes. (Proved: longest, in
@@ -164,6 +181,22 @@ uint64_t halyard_plan(const uint8_t *start, size_t start_len,
 uint64_t halyard_replay(const uint8_t *image, size_t image_len,
                         const uint8_t *list, size_t list_len,
                         uint8_t *out, size_t out_len);
+
+/*
+ * How deep is each cassette of a row of orders buried?
+ *
+ * Reads image, and the cassette that each order names. Any number may be
+ * named, and one more than once.
+ * Returns HALYARD_OK. Each order then has its answer: HALYARD_OK and the fewest
+ * lifts after which nothing stands on its cassette, no legal list having fewer,
+ * 0 where it stands on top; or HALYARD_ABSENT where the cassette is not in the
+ * store; or HALYARD_BURIED where no list of lifts uncovers it. Where the number
+ * is not HALYARD_OK the lifts are 0. The cassettes named stay.
+ * Otherwise it writes nothing and returns the first fault of reading, 1 to 7.
+ * The count is 0 in both cases.
+ */
+uint64_t halyard_uncover(const uint8_t *image, size_t image_len,
+                         struct halyard_order *orders, size_t orders_len);
 
 #ifdef __cplusplus
 }

@@ -1,7 +1,7 @@
 //! The C calls on a case.
 
 use crate::cases::Case;
-use halyard_outside::calls::{Answer, c};
+use halyard_outside::calls::{Answer, Order, c};
 
 /// The list space lent: the most that any store asks for.
 pub const LENT: usize = 18_360;
@@ -50,6 +50,20 @@ pub fn replay(case: &Case, list: &[u8], out: &mut [u8]) -> Answer {
             list.len(),
             out.as_mut_ptr(),
             out.len(),
+        )
+    })
+}
+
+/// Answers a row of orders on the start.
+pub fn uncover(case: &Case, orders: &mut [Order]) -> Answer {
+    let image = &case.start_image;
+    // SAFETY: each pointer has as many bytes or orders as are named, and the two do not overlap.
+    Answer::from_bits(unsafe {
+        c::halyard_uncover(
+            image.as_ptr(),
+            image.len(),
+            orders.as_mut_ptr(),
+            orders.len(),
         )
     })
 }

@@ -1,6 +1,7 @@
 //! The random stores that everything is timed on.
 
 use halyard_model::{Random, Store, image};
+use halyard_outside::calls::Order;
 
 /// Shafts, depth, and empty slots.
 #[derive(Clone, Copy)]
@@ -57,4 +58,13 @@ fn case(random: &mut Random, shape: Shape) -> Case {
     let start = random.store(shape.m, shape.h, shape.n());
     let goal = random.reachable_goal(&start);
     Case::new(start, goal)
+}
+
+/// An order for each cassette number, 1 to 255, in random order.
+pub fn orders(random: &mut Random) -> Vec<Order> {
+    random
+        .cassettes(255)
+        .into_iter()
+        .map(|cassette| Order::naming(cassette.into(), random))
+        .collect()
 }

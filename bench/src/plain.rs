@@ -3,8 +3,8 @@
 
 use crate::cases::Case;
 use crate::thesis::{self, Grid};
-use halyard_model::{Store, image, rule};
-use halyard_outside::calls::Answer;
+use halyard_model::{Store, image, rule, uncover};
+use halyard_outside::calls::{Answer, Order};
 use halyard_outside::expected;
 
 /// Checks the start's image.
@@ -39,6 +39,19 @@ pub fn replay(case: &Case, list: &[u8], out: &mut [u8]) -> Answer {
     let (answer, image) = expected::replay(&case.start_image, list, out.len());
     out[..image.len()].copy_from_slice(&image);
     answer
+}
+
+/// Answers a row of orders on the start, in place.
+pub fn uncover(case: &Case, orders: &mut [Order]) -> Answer {
+    let store = match image::read(&case.start_image) {
+        Ok(store) => store,
+        Err(number) => return Answer::of(number, 0),
+    };
+    for order in orders {
+        let answer = uncover::uncover(&store, order.cassette);
+        *order = expected::answered(*order, answer);
+    }
+    Answer::of(0, 0)
 }
 
 /// Two stores to plan between, or the first of their faults: the start's, the goal's, 8, 9.
@@ -103,6 +116,19 @@ mod tests {
             let mut theirs = ours.clone();
             let answer = replay(&case, &list, &mut ours);
             assert_eq!(answer, calls::replay(&case, &list, &mut theirs));
+            assert_eq!(ours, theirs);
+        }
+    }
+
+    #[test]
+    fn orders_are_answered_as_by_the_c_call() {
+        let mut random = Random::new(54);
+        for _ in 0..5_000 {
+            let case = any_case(&mut random);
+            let mut ours = inputs::orders(&mut random, &case.start);
+            let mut theirs = ours.clone();
+            let answer = uncover(&case, &mut ours);
+            assert_eq!(answer, calls::uncover(&case, &mut theirs));
             assert_eq!(ours, theirs);
         }
     }

@@ -5,20 +5,22 @@ use crate::cases::{self, Case, Shape};
 use crate::stack;
 use crate::timing::{self, MOST_STORES, Measured};
 use halyard_model::Random;
+use halyard_outside::calls::Order;
 use std::fmt::Write;
 
 /// How many cases a full search is tried on.
 const SEARCHED: usize = 3;
 
-/// The three tables, and how they were made.
+/// The four tables, and how they were made.
 pub fn whole(seed: u64, stores: usize, rounds: usize) -> String {
     let mut random = Random::new(seed);
     let mut table = String::from(HEAD);
     let mut ratios = Ratios::default();
     let mut stacks = Stacks::default();
+    let mut orders = Orders::default();
     for shape in cases::shapes() {
         let cases = cases::cases(&mut random, shape, stores);
-        stacks.add(&cases[0]);
+        stacks.add(&cases[0], &orders.row);
         let [calls, plain] = timing::in_rounds(shape, &cases, rounds);
         row(&mut table, shape, "(a)", &calls);
         row(&mut table, shape, "(b)", &plain);
@@ -26,9 +28,13 @@ pub fn whole(seed: u64, stores: usize, rounds: usize) -> String {
             row(&mut table, shape, "(c)", &search);
         }
         ratios.add(shape, &calls, &plain);
+        if (shape.m, shape.h) == (16, 16) {
+            orders.add(shape, &cases, rounds);
+        }
     }
     let notes = notes(seed, stores, rounds);
-    format!("{notes}\n{table}\n{}\n{}", ratios.table(), stacks.table())
+    let (ratios, orders, stacks) = (ratios.table(), orders.table(), stacks.table());
+    format!("{notes}\n{table}\n{ratios}\n{orders}\n{stacks}")
 }
 
 const HEAD: &str = "\
@@ -158,6 +164,49 @@ fn joined(numbers: [Option<f64>; 4]) -> String {
     numbers.map(decimals).join(" | ")
 }
 
+/// An order for each cassette number, and the times for the whole row on the largest stores.
+struct Orders {
+    row: Vec<Order>,
+    rows: String,
+}
+
+impl Default for Orders {
+    fn default() -> Orders {
+        Orders {
+            row: cases::orders(&mut Random::new(1)),
+            rows: String::new(),
+        }
+    }
+}
+
+impl Orders {
+    fn add(&mut self, shape: Shape, cases: &[Case], rounds: usize) {
+        let [calls, plain] = timing::orders(cases, &self.row, rounds);
+        self.rows += &format!(
+            "| 16 × 16 | {} | {} | {} | {} | {} |\n",
+            shape.e,
+            shape.n(),
+            microseconds(calls),
+            microseconds(plain),
+            decimals(ratio(calls, plain)),
+        );
+    }
+
+    fn table(&self) -> String {
+        format!(
+            "\
+{} orders in one call, one for each cassette number, so that some name no cassette of the store: the time of the whole row, on the
+starts above.
+
+| m × h | e | n | (a), µs | (b), µs | (a) / (b) |
+|---|--:|--:|--:|--:|--:|
+{}",
+            self.row.len(),
+            self.rows
+        )
+    }
+}
+
 /// The most stack that each call used, in bytes.
 #[derive(Default)]
 struct Stacks {
@@ -165,10 +214,12 @@ struct Stacks {
     reachable: usize,
     plan: usize,
     replay: usize,
+    uncover: usize,
 }
 
 impl Stacks {
-    fn add(&mut self, case: &Case) {
+    fn add(&mut self, case: &Case, orders: &[Order]) {
+        let mut orders = orders.to_vec();
         let mut list = vec![0; LENT];
         let mut out = vec![0; case.start_image.len()];
         let mut count = 0;
@@ -176,10 +227,12 @@ impl Stacks {
         let reachable = stack::used_by(|| _ = calls::reachable(case));
         let plan = stack::used_by(|| count = calls::plan(case, &mut list).count as usize);
         let replay = stack::used_by(|| _ = calls::replay(case, &list[..count], &mut out));
+        let uncover = stack::used_by(|| _ = calls::uncover(case, &mut orders));
         self.check = self.check.max(check);
         self.reachable = self.reachable.max(reachable);
         self.plan = self.plan.max(plan);
         self.replay = self.replay.max(replay);
+        self.uncover = self.uncover.max(uncover);
     }
 
     fn table(&self) -> String {
@@ -194,8 +247,9 @@ shape above, found by running it on a stack of its own that was painted before.
 | halyard_reachable | {} |
 | halyard_plan | {} |
 | halyard_replay | {} |
+| halyard_uncover | {} |
 ",
-            self.check, self.reachable, self.plan, self.replay
+            self.check, self.reachable, self.plan, self.replay, self.uncover
         )
     }
 }

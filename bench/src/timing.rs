@@ -5,7 +5,7 @@ use crate::cases::{Case, Shape};
 use crate::plain;
 use halyard_model::play;
 use halyard_model::search::Search;
-use halyard_outside::calls::Answer;
+use halyard_outside::calls::{Answer, Order};
 use std::hint::black_box;
 use std::time::Instant;
 
@@ -205,4 +205,24 @@ pub fn in_rounds(shape: Shape, cases: &[Case], rounds: usize) -> [Measured; 2] {
     }
     let [calls, plain] = timed;
     [calls.measured(&lists[0]), plain.measured(&lists[1])]
+}
+
+/// A row of orders on the start of each case, by the C call and in plain Rust, in rounds that go through both. Nanoseconds for a row.
+pub fn orders(cases: &[Case], row: &[Order], rounds: usize) -> [Option<f64>; 2] {
+    let ways: [fn(&Case, &mut [Order]) -> Answer; 2] = [calls::uncover, plain::uncover];
+    let mut clocks = ways.map(|_| Clock::new(cases.len()));
+    let mut rows = ways.map(|_| row.to_vec());
+    for case in cases {
+        let answers: Vec<_> = (0..2).map(|by| ways[by](case, &mut rows[by])).collect();
+        assert_eq!(answers[0], answers[1]);
+        assert_eq!(rows[0], rows[1]);
+    }
+    for _ in 0..rounds {
+        for ((way, clock), row) in ways.iter().zip(&mut clocks).zip(&mut rows) {
+            let row = black_box(&mut row[..]);
+            let cases = cases.iter().map(black_box).enumerate();
+            cases.for_each(|(i, case)| clock.time(i, || way(case, row)));
+        }
+    }
+    clocks.map(Clock::mean_of_medians)
 }

@@ -4,19 +4,19 @@ use crate::store::Store;
 
 /// The answer for a cassette: 16 where it isn't in the store, 17 where no lifts uncover it, or else the fewest lifts after which nothing stands on it.
 pub fn uncover(store: &Store, cassette: u16) -> Result<usize, u8> {
-    let (height, row) = place(store, cassette).ok_or(16)?;
+    let (shaft, row) = place(store, cassette).ok_or(16)?;
     if row < store.floor() {
         return Err(17);
     }
-    Ok(height - row)
+    Ok(store.shafts[shaft].len() - row)
 }
 
-/// The height of the shaft where a cassette stands, and its row.
-fn place(store: &Store, cassette: u16) -> Option<(usize, usize)> {
-    store.shafts.iter().find_map(|shaft| {
-        let under = shaft.iter().position(|&it| u16::from(it) == cassette)?;
-        Some((shaft.len(), under + 1))
-    })
+/// The shaft where a cassette stands, and its row.
+pub fn place(store: &Store, cassette: u16) -> Option<(usize, usize)> {
+    let row = |shaft: &Vec<u8>| Some(shaft.iter().position(|&it| u16::from(it) == cassette)? + 1);
+    (0..)
+        .zip(&store.shafts)
+        .find_map(|(at, shaft)| Some((at, row(shaft)?)))
 }
 
 /// The store shows the cassette on top of some shaft.

@@ -1,6 +1,6 @@
 //! What the tool does for each of its commands.
 
-use crate::draw;
+use crate::{depth, draw};
 use halyard_model::{Store, image, play, text};
 use std::fs;
 use std::io::Read;
@@ -14,6 +14,7 @@ halyard: stores as text and as images, and lists played for a person to see
   halyard play STORE LIST          draw a store, and again after each lift of a list
   halyard play --end STORE LIST    draw a store only as the list leaves it
   halyard leads START GOAL LIST    say whether a list leads from start to goal
+  halyard depth STORE CASSETTE…    draw a store, and say what is to be lifted away from each cassette
 
 TEXT is such as '3x2: [1 2] [] [3]': shafts, depth, the cassettes of each shaft bottom first.
 STORE, START and GOAL are an image file or TEXT. LIST is a file that has what the program 'plan'
@@ -53,7 +54,7 @@ pub fn run(words: &[&str]) -> Result<Said, String> {
         ["image", text] => Ok(hexadecimal(&image::write(&text::read(text)?)).into()),
         ["image", text, file] => Ok(write_image(text, file)?.into()),
         ["text", store] => Ok((text::write(&read_store(store)?) + "\n").into()),
-        ["show", store] => Ok(draw::store(&read_store(store)?, None).into()),
+        ["show", store] => Ok(draw::store(&read_store(store)?, &[]).into()),
         ["play", store, list] => {
             let (store, list) = (read_store(store)?, read_list(list, bytes)?);
             Ok(played(store, &list, options.contains(&"--end")))
@@ -61,6 +62,9 @@ pub fn run(words: &[&str]) -> Result<Said, String> {
         ["leads", start, goal, list] => {
             let (start, goal) = (read_store(start)?, read_store(goal)?);
             Ok(leads(&start, &goal, &read_list(list, bytes)?)?.into())
+        }
+        ["depth", store, ref cassettes @ ..] if !cassettes.is_empty() => {
+            depth::run(&read_store(store)?, cassettes)
         }
         [] | ["help"] => Ok(HELP.to_string().into()),
         _ => Err(format!("not understood\n\n{HELP}")),
@@ -107,7 +111,7 @@ fn read_list(file: &str, bytes: bool) -> Result<Vec<u8>, String> {
 
 /// The store drawn before and after each lift, or only at the end, up to a lift that is refused.
 fn played(mut store: Store, list: &[u8], end_only: bool) -> Said {
-    let mut shown = vec![format!("start\n{}", draw::store(&store, None))];
+    let mut shown = vec![format!("start\n{}", draw::store(&store, &[]))];
     let mut wrong = None;
     for (done, &lift) in list.iter().enumerate() {
         match play::lift(&mut store, lift) {
@@ -120,7 +124,7 @@ fn played(mut store: Store, list: &[u8], end_only: bool) -> Said {
     }
     if end_only {
         let done = shown.len() - 1;
-        shown = vec![format!("lifts done: {done}\n{}", draw::store(&store, None))];
+        shown = vec![format!("lifts done: {done}\n{}", draw::store(&store, &[]))];
     }
     Said {
         text: shown.join("\n"),
@@ -135,7 +139,7 @@ fn draw_lift(store: &Store, list: &[u8], done: usize, cassette: u8) -> String {
         "lift {} of {}: {cassette} from shaft {left} to shaft {entered}\n{}",
         done + 1,
         list.len(),
-        draw::store(store, Some(entered))
+        draw::store(store, &[cassette])
     )
 }
 
@@ -163,8 +167,8 @@ fn leads(start: &Store, goal: &Store, list: &[u8]) -> Result<String, String> {
     Ok(format!("{} lifts lead to the goal\n", end.count))
 }
 
-/// What a number of document 01 says of an image or of a lift.
-fn meaning(number: u8) -> &'static str {
+/// What a number says of an image, of a lift or of an order.
+pub fn meaning(number: u8) -> &'static str {
     match number {
         1 => "the form is not 0",
         2 => "the image ends before its last field",
@@ -175,7 +179,9 @@ fn meaning(number: u8) -> &'static str {
         11 => "a shaft that is not there, or one shaft twice",
         13 => "the shaft left is empty",
         14 => "the shaft entered is full",
-        _ => "which no image and no lift gets",
+        16 => "it is not in the store",
+        17 => "no list of lifts uncovers it",
+        _ => "which no image, no lift and no order gets",
     }
 }
 
@@ -244,7 +250,7 @@ mod tests {
         let list = Scratch::holding("end", &[0x01, 0x20]);
         let shown = prints(&["play", "--end", "--bytes", EXAMPLE, &list.0]);
         let end = text::read("3x2: [1 3] [2] []").unwrap();
-        let drawn = draw::store(&end, None);
+        let drawn = draw::store(&end, &[]);
         assert_eq!(shown, format!("lifts done: 2\n{drawn}"));
     }
 
@@ -276,8 +282,25 @@ mod tests {
     #[test]
     fn words_that_say_nothing() {
         assert_eq!(prints(&["help"]), HELP);
-        for words in [&["fly"][..], &["show"], &["show", "--end", EXAMPLE]] {
+        let unknown = [
+            &["fly"][..],
+            &["show"],
+            &["show", "--end", EXAMPLE],
+            &["depth", EXAMPLE],
+        ];
+        for words in unknown {
             assert!(run(words).is_err(), "{words:?}");
         }
+    }
+
+    #[test]
+    fn depths_of_the_cassettes_named() {
+        let shown = prints(&["depth", EXAMPLE, "1", "3"]);
+        assert!(shown.contains("row  1 |   *1 |      |   *3 |"), "{shown}");
+        assert!(
+            shown.ends_with("\n    1: 1 lift, of 2\n    3: on top\n"),
+            "{shown}"
+        );
+        assert!(run(&["depth", EXAMPLE, "1", "one"]).is_err());
     }
 }

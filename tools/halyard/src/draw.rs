@@ -2,8 +2,8 @@
 
 use halyard_model::Store;
 
-/// The rows from the top down, and the shafts' numbers below. The top cassette of the shaft `marked` has a star.
-pub fn store(store: &Store, marked: Option<usize>) -> String {
+/// The rows from the top down, and the shafts' numbers below. The cassettes `marked` have a star.
+pub fn store(store: &Store, marked: &[u8]) -> String {
     let mut lines: Vec<String> = (0..store.depth)
         .rev()
         .map(|row| draw_row(store, row, marked))
@@ -16,22 +16,18 @@ pub fn store(store: &Store, marked: Option<usize>) -> String {
     lines.join("\n") + "\n"
 }
 
-fn draw_row(store: &Store, row: usize, marked: Option<usize>) -> String {
+fn draw_row(store: &Store, row: usize, marked: &[u8]) -> String {
     let slots: String = store
         .shafts
         .iter()
-        .enumerate()
-        .map(|(number, shaft)| {
-            let top = marked == Some(number) && row + 1 == shaft.len();
-            format!("{:>5} |", draw_slot(shaft.get(row), top))
-        })
+        .map(|shaft| format!("{:>5} |", draw_slot(shaft.get(row), marked)))
         .collect();
     format!("row {:>2} |{slots}", row + 1)
 }
 
-fn draw_slot(cassette: Option<&u8>, marked: bool) -> String {
+fn draw_slot(cassette: Option<&u8>, marked: &[u8]) -> String {
     match cassette {
-        Some(cassette) if marked => format!("*{cassette}"),
+        Some(cassette) if marked.contains(cassette) => format!("*{cassette}"),
         Some(cassette) => cassette.to_string(),
         None => String::new(),
     }
@@ -50,7 +46,7 @@ row  1 |    1 |      | *255 |
        +------+------+------+
 shaft       0      1      2
 ";
-        assert_eq!(super::store(&store, Some(2)), drawn);
-        assert_eq!(super::store(&store, None), drawn.replace('*', " "));
+        assert_eq!(super::store(&store, &[255]), drawn);
+        assert_eq!(super::store(&store, &[]), drawn.replace('*', " "));
     }
 }

@@ -1,6 +1,7 @@
 //! Stores as text and as images, and lists played for a person to see.
 
 mod commands;
+mod depth;
 mod draw;
 
 use std::io::Write;
