@@ -4,7 +4,7 @@ use Prim.Native.Nat.{ℕ, zero, suc, _<_}
 use lib.ListN.{getD}
 use Rattle.store.specs.declared.Store.{Store}
 use Rattle.store.specs.Accept.{Accepted}
-use Rattle.image.specs.Reading.{readImage, Reading}
+use Rattle.image.specs.Reading.{readImage}
 use Rattle.image.proofs.Nexts.{accepted}
 use Rattle.image.proofs.RoundTrip.{read-written}
 use Rattle.calls.specs.declared.One.{One}

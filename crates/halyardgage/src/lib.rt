@@ -1,5 +1,5 @@
 // The calls for the controller's C program, on byte slices (document 01, "calls for the controller's C program on numbers and byte
-// slices"; the header is include/halyardgage.h). Each returns count × 256 + number.
+// slices") and on a row of orders (document 02, 1/13); the header is include/halyardgage.h. Each returns count × 256 + number.
 use calls::read_one;
 use orders::Order;
 use orders::uncover;

@@ -1,8 +1,11 @@
--- What is known of a store before the first order: that it is refused, or that it is accepted, with the count of its empty slots.
-use mathlib.Core.Bool.{true, false}
+-- What is known of a store before the first order: that it is refused, or that it is accepted, with the count of its empty slots; and what the row's promise
+-- makes of each.
+use mathlib.Core.Bool.{Bool, true, false, not}
+use mathlib.Core.List.{List}
 use mathlib.Core.Path.{_≡_, refl, sym, ap, _∙_}
 use Prim.Native.Nat.{ℕ, _-_, _≤_}
 use native.Mathlib.Omega.{arith}
+use lib.Dec.{T as Holds}
 use Rattle.stacks.specs.Count.{sum}
 use Rattle.stacks.proofs.Deciding.{holds, fails}
 use Rattle.marks.specs.Marking.{markCount}
@@ -17,7 +20,10 @@ use Rattle.store.specs.Slots.{depth, cassettes, cassetteCount, emptyCount}
 use Rattle.store.proofs.Acceptance.{accepted-shaped, accepted-count}
 use Rattle.store.proofs.Checks.{accepted-none, refused-one, fault-one}
 use Rattle.reach.proofs.Agree.{count-most}
-use Rattle.orders.specs.Orders.{BegunIs}
+use Rattle.uncovering.specs.Uncovering.{Lent}
+use Rattle.orders.specs.declared.Order.{Order}
+use Rattle.orders.specs.declared.Begun.{Begun}
+use Rattle.orders.specs.Orders.{RowIs, BegunIs, UncoverIs}
 
 module _ (s : Store) (r : Checked) (p : CheckIs (storeFault s) (cassettes s) r) where
   pub begun-refused : (f : Fault) → r .verdict ≡ Refused f → BegunIs s (record { accepted = false; verdict = r .verdict; e = 0 })
@@ -45,3 +51,28 @@ module _ (s : Store) (r : Checked) (p : CheckIs (storeFault s) (cassettes s) r) 
           empty = λ z. u ∙ ap (λ (i : ℕ). sum (s .m) (depth s) - i) counted;
           none = λ z. absurd (z accepted);
         }
+
+-- what the test of `accepted` says
+is-true : (t : Bool) → Holds t → t ≡ true
+is-true true h = refl
+is-true false h = absurd h
+
+is-false : (t : Bool) → Holds (not t) → t ≡ false
+is-false true h = absurd h
+is-false false h = refl
+
+module _ (s : Store) (r : Begun) (p : BegunIs s r) where
+  -- where it is true, the store is lent with its count of empty slots, and the row answered
+  module _ (h : Holds (r .accepted)) where
+    is-accepted : storeFault s ≡ 0
+    is-accepted = p .accepted .so (is-true (r .accepted) h)
+
+    pub lent : Lent s (r .e)
+    lent = record { accepted = is-accepted; empty = p .empty is-accepted }
+
+    pub on-accepted : {came out : List Order} → RowIs s came out → UncoverIs s came (r .verdict) out
+    on-accepted row = record { verdict = p .verdict; answered = λ a. row; refused = λ n. absurd (n is-accepted) }
+
+  -- where it is false, the row is as it came
+  pub on-refused : {came : List Order} → Holds (not (r .accepted)) → UncoverIs s came (r .verdict) came
+  on-refused h = record { verdict = p .verdict; answered = λ a. absurd (p .accepted .not-so (is-false (r .accepted) h) a); refused = λ n. refl }

@@ -1,3 +1,5 @@
 pub mod Beginning
+pub mod Fields
 pub mod LentArray
+pub mod LetGo
 pub mod Rows

@@ -1,7 +1,6 @@
 -- What a row of orders receives (document 02, 1/13).
 use mathlib.Core.List.{List, [], _∷_}
 use mathlib.Core.Path.{_≡_}
-use Prim.Native.Nat.{ℕ}
 use Rattle.stacks.specs.Deciding.{Decides}
 use Rattle.lifts.specs.Numbers.{Only}
 use Rattle.store.specs.declared.Store.{Store}

@@ -9,7 +9,6 @@ use store::Verdict;
 use uncovering::fewest_lifts;
 use uncovering::uncovering_lifts;
 use uncovering::uncovering_number;
-ghost use mathlib.Core.Path.{_≡_};
 ghost use Rattle.store.specs.Slots.{held};
 ghost use Rattle.uncovering.specs.Uncovering.{Lent};
 ghost use Rattle.orders.specs.Orders.{OrderIs, RowIs, BegunIs, UncoverIs};
