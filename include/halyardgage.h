@@ -39,10 +39,13 @@
  *   - What a call may write (list of halyard_plan, out of halyard_replay,
  *     orders of halyard_uncover) overlaps nothing else that is passed. Bytes
  *     that are only read may overlap: start and goal may be the same bytes.
+ *   - orders are aligned as C aligns struct halyard_order, and every field of
+ *     every order has some value: the calls read whole records. Which value
+ *     stands where the answer goes does not matter.
  *   - No other thread writes to any of the bytes during the call.
- * Lent space need not be cleared. Nothing else is asked: any bytes may be
+ * Lent bytes need not be cleared. Nothing else is asked: any bytes may be
  * passed as an image or as a list, and a call refuses what is none; an order
- * may name any number and hold anything where its answer goes.
+ * may name any number.
  *
  * The library allocates nothing and keeps nothing between calls, so that any
  * thread may call it at any time.
@@ -61,7 +64,7 @@ extern "C" {
 
 /* The numbers. */
 enum {
-    HALYARD_OK = 0, /* accepted; yes; a list; run through */
+    HALYARD_OK = 0, /* accepted; yes; a list; run through; an order answered */
 
     /* refused because of the input */
     HALYARD_FORM = 1,              /* the image's form is not 0 */

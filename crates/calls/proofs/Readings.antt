@@ -10,7 +10,7 @@ use Rattle.image.proofs.RoundTrip.{read-written}
 use Rattle.calls.specs.declared.One.{One}
 use Rattle.calls.specs.declared.Both.{Both}
 use Rattle.calls.specs.Shared.{storeIn, readFault, goalAfter, OneIs, BothAre}
-use mathlib.Core.Path.{_≡_, refl, sym, ap, _∙_}
+use mathlib.Core.Path.{_≡_, refl, sym, ap, _∙_, subst}
 use Rattle.marks.specs.Cassettes.{first}
 use Rattle.marks.proofs.Faulted.{first-none, first-stays}
 
@@ -21,6 +21,9 @@ pub record Stands (a : List ℕ) (s : Store) : Type 0 where
 -- a store that an accepted image stands for is accepted as a value
 pub stood-accepted : (a : List ℕ) → ((i : ℕ) → getD a i 0 < 256) → readFault a ≡ 0 → Accepted (storeIn a)
 stood-accepted a small e = read-written a (storeIn a) small (λ i. record { store = storeIn a; number = e i }) .0
+
+pub one-read : (a : List ℕ) {s : Store} {k : ℕ} → s ≡ storeIn a → k ≡ readFault a → ((i : ℕ) → getD a i 0 < 256) → OneIs a (record { number = k; store = s })
+one-read a p e small = record { number = e; store = p; accepted = λ z. subst Accepted (sym p) (stood-accepted a small (sym e ∙ z)) }
 
 pub stands : {a : List ℕ} {r : One} → OneIs a r → r .number ≡ 0 → Stands a (r .store)
 stands p z = record { is = λ i. record { store = sym (p .store) i; number = (sym (p .number) ∙ z) i } }

@@ -26,11 +26,11 @@ storeIn bytes = readImage bytes .store
 abbrev pub readFault : List ℕ → ℕ
 readFault bytes = readImage bytes .number
 
--- An image was read: the number that refuses it, and its store, which is accepted where the image is.
+-- An image was read: the number that refuses it, and its store, which is accepted as a value where nothing refuses the image.
 pub record OneIs (a : List ℕ) (r : One) : Type 0 where
   pub number : r .number ≡ readFault a
   pub store : r .store ≡ storeIn a
-  pub accepted : readFault a ≡ 0 → Accepted (storeIn a)
+  pub accepted : r .number ≡ 0 → Accepted (r .store)
 
 -- "read start first"
 abbrev pub readFaults : List ℕ → List ℕ → ℕ

@@ -20,7 +20,7 @@ use Rattle.store.specs.Slots.{depth, cassettes, cassetteCount, emptyCount}
 use Rattle.store.proofs.Acceptance.{accepted-shaped, accepted-count}
 use Rattle.store.proofs.Checks.{accepted-none, refused-one, fault-one}
 use Rattle.reach.proofs.Agree.{count-most}
-use Rattle.uncovering.specs.Uncovering.{Lent}
+use Rattle.uncovering.specs.Promises.{Ready}
 use Rattle.orders.specs.declared.Order.{Order}
 use Rattle.orders.specs.declared.Begun.{Begun}
 use Rattle.orders.specs.Orders.{RowIs, BegunIs, UncoverIs}
@@ -62,13 +62,13 @@ is-false true h = absurd h
 is-false false h = refl
 
 module _ (s : Store) (r : Begun) (p : BegunIs s r) where
-  -- where it is true, the store is lent with its count of empty slots, and the row answered
+  -- where it is true, the store is accepted and its empty slots counted, and the row is answered
   module _ (h : Holds (r .accepted)) where
     is-accepted : storeFault s ≡ 0
     is-accepted = p .accepted .so (is-true (r .accepted) h)
 
-    pub lent : Lent s (r .e)
-    lent = record { accepted = is-accepted; empty = p .empty is-accepted }
+    pub ready : Ready s (r .e)
+    ready = record { accepted = is-accepted; empty = p .empty is-accepted }
 
     pub on-accepted : {came out : List Order} → RowIs s came out → UncoverIs s came (r .verdict) out
     on-accepted row = record { verdict = p .verdict; answered = λ a. row; refused = λ n. absurd (n is-accepted) }

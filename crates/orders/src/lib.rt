@@ -1,5 +1,5 @@
-// Orders (document 02, 1/13): "a lent row of records that each name a cassette and receive its answer". The functions over the row are proved by a walk of
-// their code, by hand; `answered`, which does the work for one order, is covered.
+// Orders (document 02, 1/13): "a lent row of records that each name a cassette and receive its answer". `answered` does the work for one of them. The
+// functions over the row are proved by a walk of their code, by hand.
 use depths::empty_slots;
 use lifts::Heights;
 use lifts::Slots;
@@ -10,7 +10,7 @@ use uncovering::fewest_lifts;
 use uncovering::uncovering_lifts;
 use uncovering::uncovering_number;
 ghost use Rattle.store.specs.Slots.{held};
-ghost use Rattle.uncovering.specs.Uncovering.{Lent};
+ghost use Rattle.uncovering.specs.Promises.{Ready};
 ghost use Rattle.orders.specs.Orders.{OrderIs, RowIs, BegunIs, UncoverIs};
 
 // An order: the cassette it names, and its answer.
@@ -22,7 +22,7 @@ pub struct Order {
 }
 
 // One order answered.
-pub fn answered<'a>(
+fn answered<'a>(
     m: u8,
     h: u8,
     e: usize,
@@ -30,7 +30,7 @@ pub fn answered<'a>(
     slots: &'a Slots,
     order: Order,
 ) -> Order
-    requires { ⌜ Lent (held m h (now heights) (now slots)) e ⌝ }
+    requires { ⌜ Ready (held m h (now heights) (now slots)) e ⌝ }
     ensures { λ r. ⌜ OrderIs (held m h (now (heights .entry)) (now (slots .entry))) order r ⌝ }
 {
     let answer = fewest_lifts(m, h, e, heights, slots, order.cassette);
@@ -50,7 +50,7 @@ fn answer_row<'a, 'b>(
     slots: &'a Slots,
     orders: &'b mut [Order],
 )
-    requires { ⌜ Lent (held m h (now heights) (now slots)) e ⌝ }
+    requires { ⌜ Ready (held m h (now heights) (now slots)) e ⌝ }
     ensures { λ _. ⌜ RowIs (held m h (now (heights .entry)) (now (slots .entry))) (now (orders .entry)) (now (orders .exit)) ⌝ }
 {
     let mut i: usize = 0;
@@ -60,8 +60,8 @@ fn answer_row<'a, 'b>(
     }
 }
 
-// Whether a store is accepted, and then the count of its empty slots, else 0.
-pub struct Begun {
+// What is known of a store before the first order: whether it is accepted, its verdict, and the count of its empty slots, 0 where it is refused.
+struct Begun {
     pub accepted: bool,
     pub verdict: Verdict,
     pub e: usize,

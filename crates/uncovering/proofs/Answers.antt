@@ -6,8 +6,8 @@ use native.Mathlib.Omega.{arith}
 use Rattle.store.specs.declared.Store.{Store}
 use Rattle.store.specs.Slots.{depth, height, slot}
 use Rattle.uncovering.specs.declared.Uncovering.the-variants.{After, Absent, Buried}
-use Rattle.uncovering.specs.Promises.{UncoveringIs, TopRowIs}
-use Rattle.uncovering.specs.Uncovering.{Fewest, Lent}
+use Rattle.uncovering.specs.Promises.{Ready, UncoveringIs, TopRowIs}
+use Rattle.uncovering.specs.Uncovering.{Fewest}
 use Rattle.uncovering.proofs.Rule.{fewest-above, never-uncovered}
 
 -- no shaft below x shows c
@@ -15,7 +15,7 @@ abbrev pub NotBelow : Store → ℕ → ℕ → Type 0
 NotBelow s c x = (y j : ℕ) → y < x → j < height s y → slot s y (suc j) ≡ c → ⊥
 
 module _ (s : Store) (c x rows r : ℕ) (h : x < s .m) (g : rows ≡ height s x) (t : TopRowIs (s .slots) x rows c r) where
-  module _ (e : ℕ) (l : Lent s e) (floor : ℕ) (f : floor ≡ depth s x - e) (n : r ≡ 0 → ⊥) where
+  module _ (e : ℕ) (l : Ready s e) (floor : ℕ) (f : floor ≡ depth s x - e) (n : r ≡ 0 → ⊥) where
     abbrev k : ℕ
     k = r - 1
 

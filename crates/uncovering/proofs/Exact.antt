@@ -1,4 +1,4 @@
--- No two answers for one number are right at once: each has its own number and its own lifts (document 01, "Agreement on the contracts").
+-- No two answers for one number are right at once (document 01, "Agreement on the contracts").
 use mathlib.Core.List.{List}
 use mathlib.Core.Path.{_≡_, refl, ap, _∙_}
 use Prim.Native.Nat.{ℕ, suc, _-_, _<_}

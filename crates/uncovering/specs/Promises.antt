@@ -4,9 +4,16 @@ use mathlib.Core.Path.{_≡_}
 use Prim.Native.Nat.{ℕ, _≤_, _<_}
 use Rattle.lifts.specs.Lifting.{shown}
 use Rattle.store.specs.declared.Store.{Store}
+use Rattle.store.specs.Accept.{Accepted}
+use Rattle.store.specs.Slots.{emptyCount}
 use Rattle.uncovering.specs.declared.Uncovering.{Uncovering}
 use Rattle.uncovering.specs.declared.Uncovering.the-variants.{After, Absent, Buried}
 use Rattle.uncovering.specs.Uncovering.{Stands, Uncovers, Fewest}
+
+-- The store is accepted, and e is the count of its empty slots.
+pub record Ready (s : Store) (e : ℕ) : Type 0 where
+  pub accepted : Accepted s
+  pub empty : e ≡ emptyCount s
 
 -- The answer for the number c in an accepted store.
 abbrev pub UncoveringIs : Store → ℕ → Uncovering → Type 0

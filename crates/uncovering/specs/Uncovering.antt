@@ -1,12 +1,11 @@
 -- What it is to uncover a cassette (document 02, 1/13: "the fewest lifts after which nothing stands on a named cassette, proved fewest over all legal
--- lists"). A cassette is named by its number, and everything here is said of the slots that show it.
+-- lists"). A cassette is named by its number, and what is said of it is said of the slots that show the number.
 use mathlib.Core.List.{List}
 use mathlib.Core.Path.{_≡_}
 use Prim.Native.Nat.{ℕ, _≤_, _<_}
 use lib.ListN.{length}
 use Rattle.store.specs.declared.Store.{Store}
-use Rattle.store.specs.Slots.{height, slot, emptyCount}
-use Rattle.store.specs.Accept.{Accepted}
+use Rattle.store.specs.Slots.{height, slot}
 use Rattle.store.specs.Lists.{Leads}
 
 -- The store shows the number c in a row of a shaft that holds a cassette.
@@ -37,8 +36,3 @@ pub record Fewest (s : Store) (c k : ℕ) : Type 0 where
   pub uncovers : Uncovers s c list
   pub count : length list ≡ k
   pub least : (other : List ℕ) → Uncovers s c other → k ≤ length other
-
--- An accepted store, and e, the count of its empty slots.
-pub record Lent (s : Store) (e : ℕ) : Type 0 where
-  pub accepted : Accepted s
-  pub empty : e ≡ emptyCount s

@@ -11,8 +11,7 @@ ghost use Prim.Native.Nat.{_≤_, _<_};
 ghost use Rattle.lifts.specs.Lifting.{mostShafts, mostRows};
 ghost use Rattle.store.specs.Slots.{held};
 ghost use Rattle.uncovering.specs.Numbers.{uncoveringNumber, uncoveringLifts};
-ghost use Rattle.uncovering.specs.Uncovering.{Lent};
-ghost use Rattle.uncovering.specs.Promises.{UncoveringIs, TopRowIs};
+ghost use Rattle.uncovering.specs.Promises.{Ready, UncoveringIs, TopRowIs};
 
 // How an order is answered: after so many lifts nothing stands on the cassette; it isn't in the store, 16; no list of legal lifts uncovers it, 17.
 pub enum Uncovering {
@@ -67,7 +66,7 @@ pub fn fewest_lifts<'a>(
     slots: &'a Slots,
     number: u16,
 ) -> Uncovering
-    requires { ⌜ Lent (held m h (now heights) (now slots)) e ⌝ }
+    requires { ⌜ Ready (held m h (now heights) (now slots)) e ⌝ }
     ensures { λ r. ⌜ UncoveringIs (held m h (now (heights .entry)) (now (slots .entry))) number r ⌝ }
 {
     let shafts = m as usize;

@@ -52,12 +52,12 @@ use Rattle.store.proofs.Verdict as Vd
 use Rattle.store.proofs.Verdict.Laws as Vd′
 use Rattle.orders.specs.declared.Order.{Order}
 use Rattle.orders.specs.declared.Begun.{Begun}
-use Rattle.uncovering.specs.Uncovering.{Lent}
+use Rattle.uncovering.specs.Promises.{Ready}
 use Rattle.orders.specs.Orders.{RowIs, BegunIs, UncoverIs}
 use Rattle.orders.proofs.Order as O
 use Rattle.orders.proofs.Begun as B
 use Rattle.orders.proofs.Begun.Laws as B′
-use Rattle.orders.proofs.Beginning.{lent, on-accepted, on-refused}
+use Rattle.orders.proofs.Beginning.{ready, on-accepted, on-refused}
 use Rattle.orders.proofs.Fields.{bytesVal, verdict-is, heights-are, slots-are, count-fits}
 use Rattle.orders.proofs.LentArray.{array-at, RefOwns, Lender, lends-array, array-back}
 use Rattle.orders.proofs.LetGo.{let-go}
@@ -175,7 +175,7 @@ module _ {M : Type 1} (𝓤 : URA M) (H : Heap 𝓤) (A : Atoms 𝓤) (W : Given
     abbrev to-row : AnswerRow 𝓤 H A mem run .Ghost
     to-row = (((ν ∷ [], (κ, tt)), (fullShare, (q, tt)), tt, passed, (vint w8 (s .m) ∷ [], (vint w8 (s .h) ∷ [], (vint w64 e ∷ [], (vptr l 0 ∷ [], (vptr k 0 ∷ [], (row ∷ [], tt))))))), tt)
 
-    goes-row : Lent s e → e < 2 ^ 64 → ent 𝓤 (⋆ 𝓤 H A (‵ (HeightsRef ν l δ) ∷ ‵ (SlotsRef ν k ε) ∷ ‵ (flft (ν ∷ []) fullShare) ∷ ‵ Own ∷ token ∷ [])) (AnswerRow 𝓤 H A mem run .pre to-row)
+    goes-row : Ready s e → e < 2 ^ 64 → ent 𝓤 (⋆ 𝓤 H A (‵ (HeightsRef ν l δ) ∷ ‵ (SlotsRef ν k ε) ∷ ‵ (flft (ν ∷ []) fullShare) ∷ ‵ Own ∷ token ∷ [])) (AnswerRow 𝓤 H A mem run .pre to-row)
     goes-row ok e-fits =
         qed W (‵ (HeightsRef ν l δ) ∷ ‵ (SlotsRef ν k ε) ∷ ‵ (flft (ν ∷ []) fullShare) ∷ ‵ Own ∷ token ∷ []) ∵ says ! ok $ move ! (2 ∷ 4 ∷ []) $ join ! $ frame ! $
         -- [&heights; &slots; orders]
@@ -268,7 +268,7 @@ module _ {M : Type 1} (𝓤 : URA M) (H : Heap 𝓤) (A : Atoms 𝓤) (W : Given
           move ! (17 ∷ []) $
           use1 W (later (some (λ (ε : GName). ‵ (SlotsRef ν l₅ ε) ⊛ ‵ (SlotsLent ν l₅)))) (lends-array u8 256 (s .slots) l₅ 𝓤 H A W (uint-makes 𝓤 H A W w8) (named 0) (ν ∷ []) (bytesVal (s .slots)) (slots-are s s-is)) $ await ! tt $ pick ! (λ ε. split ! $
           -- [&slots; slots' lender's part; &heights; heights' lender's part; ν's token; what orders owns; the token; _11; …]
-          move ! (2 ∷ 0 ∷ 4 ∷ 5 ∷ 6 ∷ []) $ group ! 5 $ use1 W (raw (AnswerRow 𝓤 H A mem run .pre (to-row (r .e) ν l₄ l₅ δ ε))) (goes-row (r .e) ν l₄ l₅ δ ε (lent s r e h) (count-fits r r-is)) $
+          move ! (2 ∷ 0 ∷ 4 ∷ 5 ∷ 6 ∷ []) $ group ! 5 $ use1 W (raw (AnswerRow 𝓤 H A mem run .pre (to-row (r .e) ν l₄ l₅ δ ε))) (goes-row (r .e) ν l₄ l₅ δ ε (ready s r e h) (count-fits r r-is)) $
           -- [what `answer_row` asks; slots' lender's part; heights' lender's part; _11; …; _6; …; the ends of _5 and of _4; _3; …; _0; …]
           calls-at-last ! fm (AnswerRow 𝓤 H A mem run) known-row (to-row (r .e) ν l₄ l₅ δ ε)
           (and-then ! (load ! (from ! (fld ! refl (stop !))) (look-in ! 21 (sub ! 0 refl (whole !)))) (and-then ! (load ! (from ! (fld ! refl (stop !))) (look-in ! 21 (sub ! 1 refl (whole !)))) (and-then ! (load ! (from ! (fld ! refl (stop !))) (look-in ! 17 (sub ! 2 refl (whole !))))
