@@ -40,9 +40,11 @@
  *     orders of halyard_uncover) overlaps nothing else that is passed. Bytes
  *     that are only read may overlap: start and goal may be the same bytes.
  *   - orders are aligned as C aligns struct halyard_order, and every field of
- *     every order has some value: the calls read whole records. Which value
- *     stands where the answer goes does not matter.
- *   - No other thread writes to any of the bytes during the call.
+ *     every order has some value: whole orders are read and written, a cassette
+ *     with the value it had. Which value stands where the answer goes does not
+ *     matter.
+ *   - During the call no other thread writes to anything that is passed, nor
+ *     reads what the call may write.
  * Lent bytes need not be cleared. Nothing else is asked: any bytes may be
  * passed as an image or as a list, and a call refuses what is none; an order
  * may name any number.
@@ -188,8 +190,9 @@ uint64_t halyard_replay(const uint8_t *image, size_t image_len,
 /*
  * How deep is each cassette of a row of orders buried?
  *
- * Reads image, and the cassette that each order names. Any number may be
- * named, and one more than once.
+ * Reads image and orders; of an order only the cassette matters. orders_len is
+ * a count of orders, not of bytes. Any number may be named, and one more than
+ * once.
  * Returns HALYARD_OK. Each order then has its answer: HALYARD_OK and the fewest
  * lifts after which nothing stands on its cassette, no legal list having fewer,
  * 0 where it stands on top; or HALYARD_ABSENT where the cassette is not in the

@@ -1,5 +1,5 @@
-//! The work of the C calls in plain Rust, from the same images. Reader, writer, lifts and rule are the model's, as the tests use
-//! them; the plan is the thesis's.
+//! The work of the C calls in plain Rust, from the same images. Reader, writer, lifts, rule and the answer to an order are the
+//! model's, as the tests use them; the plan is the thesis's.
 
 use crate::cases::Case;
 use crate::thesis::{self, Grid};

@@ -48,8 +48,8 @@ fn notes(seed: u64, stores: usize, rounds: usize) -> String {
 Processor: {}. Seed {seed}.
 
 - (a) is Halyardgage's C calls. (b) is plain Rust that does the same work from the same images, and refuses what the calls
-  refuse: reader, writer, lifts and rule are those of the tests' model, none of it made for speed, and it allocates, where (a)
-  does not. Its plan is the thesis's own solve, mended, on arrays, which covers e ≥ h. (c) is a full search in Rust, from
+  refuse: reader, writer, lifts, rule and the answer to an order are those of the tests' model, none of it made for speed, and
+  it allocates, where (a) does not. Its plan is the thesis's own solve, mended, on arrays, which covers e ≥ h. (c) is a full search in Rust, from
   stores that have been read already, which also gives the fewest lifts; it is left out where it finds more than
   {MOST_STORES} stores.
 - Each row has {stores} random pairs of stores, every goal one that can be reached, the same pairs for (a) and (b); for (c)
@@ -195,8 +195,8 @@ impl Orders {
     fn table(&self) -> String {
         format!(
             "\
-{} orders in one call, one for each cassette number, so that some name no cassette of the store: the time of the whole row, on the
-starts above.
+{} orders in one call, one for each cassette number, of which n stand in the store: the time of the whole row, on the starts
+above.
 
 | m × h | e | n | (a), µs | (b), µs | (a) / (b) |
 |---|--:|--:|--:|--:|--:|

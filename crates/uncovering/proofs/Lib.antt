@@ -1,3 +1,4 @@
+pub mod Absent
 pub mod Answers
 pub mod Cleared
 pub mod Covered

@@ -50,7 +50,7 @@ impl Store {
         all
     }
 
-    /// How many rows from the bottom never change where there are three shafts or more: h - e, or none.
+    /// How many rows from the bottom never change: h - e, or none.
     pub fn floor(&self) -> usize {
         self.depth.saturating_sub(self.e())
     }

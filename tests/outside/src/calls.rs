@@ -102,6 +102,8 @@ pub struct Caller {
     random: Random,
     guard: usize,
     answers: [u64; 256],
+    orders: [u64; 256],
+    lifts: [u64; 256],
 }
 
 impl Caller {
@@ -110,12 +112,24 @@ impl Caller {
             random: Random::new(seed),
             guard,
             answers: [0; 256],
+            orders: [0; 256],
+            lifts: [0; 256],
         }
     }
 
     /// How many answers had a number.
     pub fn answers_with(&self, number: u8) -> u64 {
         self.answers[usize::from(number)]
+    }
+
+    /// How many orders were answered with a number.
+    pub fn orders_with(&self, number: u8) -> u64 {
+        self.orders[usize::from(number)]
+    }
+
+    /// How many orders were answered with so many lifts, and number 0.
+    pub fn orders_after(&self, lifts: u8) -> u64 {
+        self.lifts[usize::from(lifts)]
     }
 
     fn answer(&mut self, bits: u64) -> Answer {
@@ -211,9 +225,22 @@ impl Caller {
             )
         };
         assert!(image.kept_but(0), "uncover wrote to its image or beside it");
+        let answer = self.answer(bits);
+        if answer.number == 0 {
+            self.count(orders.content());
+        }
         Written {
-            answer: self.answer(bits),
+            answer,
             space: orders,
+        }
+    }
+
+    fn count(&mut self, orders: &[Order]) {
+        for order in orders {
+            self.orders[usize::from(order.number)] += 1;
+            if order.number == 0 {
+                self.lifts[usize::from(order.lifts)] += 1;
+            }
         }
     }
 }

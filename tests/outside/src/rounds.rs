@@ -17,7 +17,7 @@ pub fn pair(caller: &mut Caller, random: &mut Random) {
     checks::replay(caller, &start_image, list, start_image.len());
 }
 
-/// Damaged bytes through every call that takes an image, in each place of one.
+/// Damaged bytes through every call on bytes alone, in each place of an image. Rows of orders have a round of their own.
 pub fn damage(caller: &mut Caller, random: &mut Random) {
     let (bytes, others) = (inputs::damaged(random), inputs::damaged(random));
     let store = inputs::store(random);

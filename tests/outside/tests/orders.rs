@@ -83,9 +83,15 @@ fn random_rows() {
     for number in [0, 1, 2, 3, 4, 5, 7] {
         assert!(caller.answers_with(number) > 100, "{number} is rare");
     }
+    for number in [0, 16, 17] {
+        assert!(caller.orders_with(number) > 10_000, "{number} is rare");
+    }
+    for lifts in 0..16 {
+        assert!(caller.orders_after(lifts) > 1_000, "{lifts} lifts are rare");
+    }
 }
 
-/// The row of every number that a record can name, on a full store of 255 cassettes and on a store with room.
+/// The row of every number that an order can name, on 16 x 16 with one and with sixteen empty slots, on three shafts, and on one.
 #[test]
 fn every_name() {
     let mut random = Random::new(43);
@@ -99,7 +105,7 @@ fn every_name() {
     }
 }
 
-/// Answers written out: `[1 4 5 6] [2 7 8] [3 9]` of depth 4 has three empty slots, so row 1 is as low as can be uncovered; with one cassette more it is not.
+/// Answers written out: `[1 4 5 6] [2 7 8] [3 9]` of depth 4 has three empty slots, so that row 1 can just be uncovered; with one cassette more it can't.
 #[test]
 fn answers_by_hand() {
     let named = |cassette, number, lifts| Order {
@@ -132,6 +138,30 @@ fn answered(store: &str, row: &[Order]) {
         .collect();
     let caller = &mut Caller::new(44, GUARD);
     checks::row_is(caller, &image, &orders, Answer::of(0, 0), row);
+}
+
+/// A row that begins two bytes past a multiple of four, as C may place it: an order is a word for its cassette and one for its answer.
+#[test]
+fn a_row_aligned_to_two() {
+    let image = image::write(&text::read("3x4: [1 4 5 6] [2 7 8] [3 9 10]").unwrap());
+    let mut words = [0, 4, 0xAAAA, 1, 0xAAAA, 11, 0xAAAA, 0xAAAA].to_vec();
+    let place: *mut u16 = words.as_mut_ptr();
+    if place.align_offset(4) != 0 {
+        words.remove(0);
+    }
+    let first = words.iter().position(|&word| word == 4).unwrap();
+    // SAFETY: the image has as many bytes as are named, and from its first word on there are three orders, aligned to two bytes.
+    let number = unsafe {
+        let row = words.as_mut_ptr().add(first).cast();
+        c::halyard_uncover(image.as_ptr(), image.len(), row, 3)
+    };
+    let answers: Vec<_> = words[first..first + 6]
+        .chunks(2)
+        .map(|order| (order[0], order[1].to_ne_bytes()))
+        .collect();
+    assert_eq!(number, 0);
+    assert_eq!(answers, [(4, [0, 2]), (1, [17, 0]), (11, [16, 0])]);
+    assert_eq!(words.last(), Some(&0xAAAA));
 }
 
 /// A refused image leaves the row, whatever it holds.

@@ -15,16 +15,16 @@ pub fn run(store: &Store, words: &[&str]) -> Result<Said, String> {
         .filter_map(|&it| u8::try_from(it).ok())
         .collect();
     let lines: String = named.iter().map(|&it| line(store, it)).collect();
-    let covered = |it: &&u16| uncover::uncover(store, **it).is_err();
-    let failed = named.iter().filter(covered).count();
+    let fails = |it: &&u16| uncover::uncover(store, **it).is_err();
+    let failed = named.iter().filter(fails).count();
     Ok(Said {
         text: format!("{}\n{lines}", draw::store(store, &marked)),
-        wrong: (failed > 0).then(|| format!("{failed} of {} can't be uncovered", named.len())),
+        wrong: (failed > 0).then(|| format!("{failed} of {} orders fail", named.len())),
     })
 }
 
 fn cassette(word: &str) -> Result<u16, String> {
-    let wrong = |_| format!("{word} is no number from 0 to 65535");
+    let wrong = |_| format!("'{word}' is no number from 0 to 65535");
     word.parse().map_err(wrong)
 }
 
@@ -56,10 +56,11 @@ fn no_room(store: &Store, cassette: u16) -> String {
     let (shaft, row) = uncover::place(store, cassette).expect("a cassette of the store");
     let height = store.shafts[shaft].len();
     let elsewhere = store.e() - (store.depth - height);
-    format!(
-        "{} on it, and room for {elsewhere} on the other shafts",
-        height - row
-    )
+    let above = height - row;
+    match store.m() {
+        1 => format!("{above} on it, and no other shaft"),
+        _ => format!("{above} on it, and room for {elsewhere} on the other shafts"),
+    }
 }
 
 #[cfg(test)]
@@ -88,7 +89,14 @@ shaft       0      1      2
 65535: 16, it is not in the store
 ";
         assert_eq!(said.text, shown);
-        assert_eq!(said.wrong.as_deref(), Some("4 of 7 can't be uncovered"));
+        assert_eq!(said.wrong.as_deref(), Some("4 of 7 orders fail"));
+    }
+
+    #[test]
+    fn one_shaft() {
+        let said = run(&text::read("1x3: [1 2]").unwrap(), &["1"]).unwrap();
+        let line = "    1: 17, no list of lifts uncovers it: 1 on it, and no other shaft\n";
+        assert!(said.text.ends_with(line), "{}", said.text);
     }
 
     #[test]
