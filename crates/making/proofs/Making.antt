@@ -14,18 +14,17 @@ use Rattle.stacks.proofs.Rounds.{within-bound}
 use Rattle.stacks.proofs.Floors.{filled-and-empty}
 use Rattle.store.specs.declared.Store.{Store}
 use Rattle.store.specs.Slots.{depth, deepest, height, stack, cassetteCount, emptyCount, listSpace}
-use Rattle.depths.specs.Depths.{DepthsFit}
 use Rattle.rows.specs.Rows.{rowsDown}
-use Rattle.store.specs.Sound.{Shaped, Sound}
+use Rattle.store.specs.Sound.{Sound}
 use Rattle.store.proofs.Acceptance.{accepted-sound}
 use Rattle.store.proofs.Rows.{stack-length}
 use Rattle.reach.specs.Pairs.{Comparable}
 use Rattle.reach.specs.Rules.{floor, Rule}
-use Rattle.reach.proofs.Agree.{total-agrees, empties-agree, count-most}
+use Rattle.reach.proofs.Agree.{total-agrees, empties-agree}
 use Rattle.reach.proofs.Reachability.{start-within, beyond, same-occurrences, start-floor, goal-floor, rule-floors}
 use Rattle.moves.specs.Written.{Steps}
 use Rattle.rooms.specs.declared.Frame.{Frame}
-use Rattle.lifts.specs.Lifting.{mostShafts, heightIn}
+use Rattle.lifts.specs.Lifting.{heightIn}
 use Rattle.rooms.specs.Frames.{storeOf, Fits}
 use Rattle.rooms.proofs.Bottoms.{shaped-fits, stack-onto}
 use Rattle.agreeing.specs.Agreeing.{AgreeingIs}
@@ -37,14 +36,6 @@ use Rattle.making.specs.Made.{MadeIs}
 -- the frame of a store with e empty slots
 abbrev pub frameOf : Store → ℕ → Frame
 frameOf s e = record { m = s .m; h = s .h; e = e }
-
--- the empty slots, counted
-pub count-fits : (s : Store) (n : ℕ) → Shaped s → n ≡ cassetteCount s → ((s .m ≤ mostShafts) × DepthsFit (s .h)) × (n ≤ sum (s .m) (depth s))
-count-fits s n h c = ((h .shafts, h .rows), rw c (count-most s h))
-
-pub empty-counted : (s : Store) (n e : ℕ) → n ≡ cassetteCount s → e ≡ sum (s .m) (depth s) - n → e ≡ emptyCount s
-unfolding emptyCount
-empty-counted s n e c f = f ∙ rw c
 
 module _ (s t : Store) (p : Comparable s t) (e : ℕ) (empty : e ≡ emptyCount s) where
   start : Sound s

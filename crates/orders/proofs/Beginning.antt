@@ -4,22 +4,22 @@ use mathlib.Core.Bool.{Bool, true, false, not}
 use mathlib.Core.List.{List}
 use mathlib.Core.Path.{_≡_, refl, sym, ap, _∙_}
 use Prim.Native.Nat.{ℕ, _-_, _≤_}
-use native.Mathlib.Omega.{arith}
 use lib.Dec.{T as Holds}
 use Rattle.stacks.specs.Count.{sum}
 use Rattle.stacks.proofs.Deciding.{holds, fails}
 use Rattle.marks.specs.Marking.{markCount}
-use Rattle.lifts.specs.Lifting.{mostShafts, mostRows}
+use Rattle.lifts.specs.Lifting.{mostShafts}
+use Rattle.depths.specs.Depths.{DepthsFit}
 use Rattle.store.specs.declared.Store.{Store}
 use Rattle.store.specs.declared.Checked.{Checked}
 use Rattle.store.specs.declared.Fault.{Fault}
 use Rattle.store.specs.declared.Verdict.the-variants.{Accepted, Refused}
 use Rattle.store.specs.Accept.{storeFault}
 use Rattle.store.specs.Promises.{CheckIs}
-use Rattle.store.specs.Slots.{depth, cassettes, cassetteCount, emptyCount}
+use Rattle.store.specs.Slots.{depth, cassettes, cassetteCount}
 use Rattle.store.proofs.Acceptance.{accepted-shaped, accepted-count}
 use Rattle.store.proofs.Checks.{accepted-none, refused-one, fault-one}
-use Rattle.reach.proofs.Agree.{count-most}
+use Rattle.reach.proofs.Empties.{count-fits, empty-counted}
 use Rattle.uncovering.specs.Promises.{Ready}
 use Rattle.orders.specs.declared.Order.{Order}
 use Rattle.orders.specs.declared.Begun.{Begun}
@@ -39,16 +39,15 @@ module _ (s : Store) (r : Checked) (p : CheckIs (storeFault s) (cassettes s) r) 
     counted = c ∙ ap markCount (accepted-none _ _ r p e .1) ∙ accepted-count s accepted
 
     -- what `empty_slots` requires
-    pub count-fits : (s .m ≤ mostShafts) × ((x : ℕ) → depth s x ≤ mostRows) × (n ≤ sum (s .m) (depth s))
-    count-fits = let q = accepted-shaped s accepted in (q .shafts, q .rows, omega (arith, counted, count-most s q))
+    pub fits : ((s .m ≤ mostShafts) × DepthsFit (s .h)) × (n ≤ sum (s .m) (depth s))
+    fits = count-fits s n (accepted-shaped s accepted) counted
 
     pub begun-accepted : (k : ℕ) → k ≡ sum (s .m) (depth s) - n → BegunIs s (record { accepted = true; verdict = r .verdict; e = k })
-    unfolding emptyCount
     begun-accepted k u =
         record {
           verdict = p .verdict;
           accepted = holds accepted;
-          empty = λ z. u ∙ ap (λ (i : ℕ). sum (s .m) (depth s) - i) counted;
+          empty = λ z. empty-counted s n k counted u;
           none = λ z. absurd (z accepted);
         }
 

@@ -6,10 +6,9 @@ use Prim.Native.Nat.{ℕ, zero, suc, _+_, _-_, _≤_}
 use native.Mathlib.Omega.{arith}
 use lib.ListN.{length, drop, length-append}
 use Rattle.stacks.specs.Run.{Within}
-use Rattle.stacks.specs.Count.{sum, count, occurrences, total, empties, lowest}
+use Rattle.stacks.specs.Count.{count, occurrences, total, empties, lowest}
 use Rattle.stacks.specs.TwoStackReading.{twoStackReading}
 use Rattle.stacks.proofs.Counts.{count-append}
-use Rattle.stacks.proofs.Sums.{sum-le, sum-equal}
 use Rattle.store.specs.declared.Store.{Store}
 use Rattle.store.specs.Slots.{depth, height, slot, upward, downward, stack, cassettesBelow, cassettes, cassetteCount, emptyCount}
 use Rattle.rows.specs.Rows.{rowsUp, rowsDown}
@@ -69,18 +68,6 @@ module _ (s : Store) where
   pub empties-agree : empties (s .m) (depth s) (stack s) ≡ emptyCount s
   unfolding empties emptyCount
   empties-agree = rw total-agrees
-
-  -- n is the sum of the heights, which no slots pass, and what is left of the sum of the depths is e
-  pub heights-total : sum (s .m) (height s) ≡ cassetteCount s
-  unfolding total
-  heights-total = sum-equal (s .m) (height s) (λ x. length (stack s x)) (λ x h. sym (stack-length s x)) ∙ total-agrees
-
-  pub count-most : Shaped s → cassetteCount s ≤ sum (s .m) (depth s)
-  count-most p = omega (arith, heights-total, sum-le (s .m) (height s) (depth s) (λ x h. p .heights x))
-
-  pub heights-and-empties : Shaped s → sum (s .m) (height s) + emptyCount s ≡ sum (s .m) (depth s)
-  unfolding emptyCount
-  heights-and-empties p = omega (arith, heights-total, count-most p)
 
   -- the lowest k of a stack are rows 1 to k
   rows-under : (x j n k : ℕ) → n ≡ j + k → drop j (downward s x n) ≡ downward s x k

@@ -1,4 +1,5 @@
 pub mod Agree
+pub mod Empties
 pub mod Lasting
 pub mod Reachability
 pub mod RuleTests

@@ -49,7 +49,7 @@ lift-moves s a b p q =
     }
 
 -- what holds of both shafts of a lift and of every other shaft holds of all
-at-and-elsewhere : (P : ℕ → Type 0) (a b : ℕ) → P a → P b → ((x : ℕ) → (x ≡ a → ⊥) → (x ≡ b → ⊥) → P x) → (x : ℕ) → P x
+pub at-and-elsewhere : (P : ℕ → Type 0) (a b : ℕ) → P a → P b → ((x : ℕ) → (x ≡ a → ⊥) → (x ≡ b → ⊥) → P x) → (x : ℕ) → P x
 at-and-elsewhere P a b u v w = everywhere P a u (everywhere (λ x. (x ≡ a → ⊥) → P x) b (λ i. v) (λ x j i. w x i j))
 
 -- after a lift nothing stands above the new heights
@@ -86,7 +86,7 @@ module _ (s : Store) (a b : ℕ) (p : Shaped s) (q : Allowed s a b) where
   moves = lift-moves s a b p q
 
   -- a row that holds a cassette before and after holds the same
-  kept-rows : (x k : ℕ) → k < height s x → k < height (lifted s a b) x → slot (lifted s a b) x (suc k) ≡ slot s x (suc k)
+  pub kept-rows : (x k : ℕ) → k < height s x → k < height (lifted s a b) x → slot (lifted s a b) x (suc k) ≡ slot s x (suc k)
   kept-rows x k h i =
       moves .kept x k (omega (arith, holds-below s x p (omega arith), p .shafts)) (omega (arith, p .heights x, p .rows x))
       (λ z. omega (arith, moves .lower, ap (height (lifted s a b)) (z .0))) (λ z. omega (arith, ap (height s) (z .0)))

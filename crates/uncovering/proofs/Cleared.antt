@@ -4,16 +4,19 @@ use mathlib.Core.Path.{_≡_, refl, sym, ap, _∙_}
 use Prim.Native.Nat.{ℕ, zero, suc, _+_, _≤_, _<_}
 use native.Mathlib.Omega.{arith}
 use lib.ListN.{length}
+use Rattle.stacks.specs.Count.{total}
 use Rattle.stacks.specs.Moves.{lift}
+use Rattle.stacks.proofs.Floors.{filled-and-empty}
 use Rattle.stacks.proofs.Sums.{Less, some-other-less}
 use Rattle.store.specs.declared.Store.{Store}
-use Rattle.store.specs.Slots.{depth, height, slot, emptyCount}
+use Rattle.store.specs.Slots.{depth, height, slot, stack, emptyCount}
 use Rattle.store.specs.Lifts.{Allowed, lifted}
 use Rattle.store.specs.Lists.{byteOf, ended}
 use Rattle.store.specs.Sound.{Shaped}
 use Rattle.store.proofs.Played.{lift-then}
-use Rattle.store.proofs.Views.{Moved, lift-moves, lifted-shaped}
-use Rattle.reach.proofs.Agree.{heights-and-empties}
+use Rattle.store.proofs.Rows.{stack-length}
+use Rattle.store.proofs.Views.{Moved, lift-moves, kept-rows, lifted-shaped}
+use Rattle.reach.proofs.Agree.{shaped-within, empties-agree}
 use Rattle.uncovering.specs.Uncovering.{Uncovers}
 use Rattle.uncovering.proofs.Covered.{lifted-empty}
 
@@ -24,8 +27,11 @@ pub record Clearing (s : Store) (c k : ℕ) : Type 0 where
   pub count : length list ≡ k
 
 -- another shaft has room, where what is empty above shaft x is not all
-room-elsewhere : (s : Store) → Shaped s → (x : ℕ) → x < s .m → depth s x < height s x + emptyCount s → Less (s .m) x (height s) (depth s)
-room-elsewhere s p x h i = some-other-less (s .m) x (height s) (depth s) h (omega (arith, heights-and-empties s p))
+room-elsewhere : (s : Store) → Shaped s → (x : ℕ) → x < s .m → depth s x < height s x + emptyCount s → Less (s .m) x (λ i. length (stack s i)) (depth s)
+unfolding total
+room-elsewhere s p x h i =
+    some-other-less (s .m) x (λ i. length (stack s i)) (depth s) h
+    (omega (arith, filled-and-empty (s .m) (depth s) (stack s) (shaped-within s p), empties-agree s, stack-length s x))
 
 -- k cassettes stand on a c that is not too low
 pub cleared : (k : ℕ) (s : Store) (c x y : ℕ) → Shaped s → x < s .m → 0 < y → k + y ≡ height s x → slot s x y ≡ c → depth s x ≤ y + emptyCount s → Clearing s c k
@@ -41,10 +47,10 @@ cleared (suc k) s c x zero p h i e f d = absurd (omega arith)
 cleared (suc k) s c x (suc y) p h i e f d =
     let r = room-elsewhere s p x h (omega arith) in
     let z = r .place in
-    let q : Allowed s x z = record { left-below = h; entered-below = r .below; differ = λ j. r .other (sym j); taken = omega arith; room = r .less } in
+    let q : Allowed s x z = record { left-below = h; entered-below = r .below; differ = λ j. r .other (sym j); taken = omega arith; room = omega (arith, r .less, stack-length s z) } in
     let v : Moved s x z (lifted s x z) = lift-moves s x z p q in
     let w = cleared k (lifted s x z) c x (suc y) (lifted-shaped s x z p q) h i (omega (arith, v .lower))
-    (v .kept x y (omega (arith, p .shafts)) (omega (arith, p .heights x, p .rows x)) (λ j. omega (arith, j .1)) (λ j. r .other (sym (j .0))) ∙ f)
+    (kept-rows s x z p q x y (omega arith) (omega (arith, v .lower)) ∙ f)
     (omega (arith, lifted-empty s x z p q)) in
     record {
       list = byteOf (lift x z) ∷ w .list;

@@ -1,28 +1,29 @@
 -- No list uncovers a cassette sooner than by what stands on it, and none one that lies too low: a lift takes away one of what stands on it at most, and moves
 -- no cassette that is covered. Each shaft has its own depth, and numbers may repeat.
 use mathlib.Core.List.{List, []}
-use mathlib.Core.Path.{_≡_, sym, ap, _∙_}
+use mathlib.Core.Path.{_≡_, sym, _∙_}
 use Prim.Native.Nat.{ℕ, zero, suc, _+_, _≤_, _<_}
-use native.Mathlib.Decide.{ℕ-discrete, decLt}
+use native.Mathlib.Decide.{decLt}
 use native.Mathlib.Omega.{arith}
 use lib.ListN.{length}
 use Rattle.stacks.specs.Moves.{lift}
-use Rattle.stacks.proofs.Sums.{sum-le-outside}
+use Rattle.stacks.proofs.Floors.{room}
 use Rattle.lifts.specs.Bytes.{left, entered}
 use Rattle.store.specs.declared.Store.{Store}
-use Rattle.store.specs.Slots.{depth, height, slot, emptyCount, cassetteCount}
+use Rattle.store.specs.Slots.{depth, height, slot, stack, emptyCount, cassetteCount}
 use Rattle.store.specs.Lifts.{Allowed, lifted}
 use Rattle.store.specs.Lists.{Leads, ended, then}
 use Rattle.store.specs.Sound.{Shaped}
 use Rattle.store.proofs.Played.{lift-then}
-use Rattle.store.proofs.Views.{Moved, lift-moves, lifted-shaped}
-use Rattle.reach.proofs.Agree.{heights-and-empties}
+use Rattle.store.proofs.Rows.{stack-length}
+use Rattle.store.proofs.Views.{Moved, lift-moves, at-and-elsewhere, kept-rows, lifted-shaped}
+use Rattle.reach.proofs.Agree.{shaped-within, empties-agree}
 use Rattle.reach.proofs.Lasting.{leads-count}
 use Rattle.uncovering.specs.Uncovering.{Uncovered}
 
 -- what is empty above a shaft is part of e
 pub empty-above : (s : Store) → Shaped s → (x : ℕ) → x < s .m → depth s x ≤ height s x + emptyCount s
-empty-above s p x h = omega (arith, heights-and-empties s p, sum-le-outside (s .m) (height s) (depth s) x h (λ i j k. p .heights i))
+empty-above s p x h = omega (arith, room (s .m) (depth s) (stack s) (shaped-within s p) x h, empties-agree s, stack-length s x)
 
 -- a lift keeps e
 pub lifted-empty : (s : Store) (a b : ℕ) → Shaped s → Allowed s a b → emptyCount (lifted s a b) ≡ emptyCount s
@@ -43,44 +44,30 @@ module _ (s : Store) (a b : ℕ) (p : Shaped s) (q : Allowed s a b) where
 
   -- a height falls by one at most
   lower-by-one : (x : ℕ) → height s x ≤ suc (height t x)
-  lower-by-one x =
-      elim (ℕ-discrete x a) [
-        | yes i ↦ omega (arith, moved .lower, ap (height s) i, ap (height t) i)
-        | no i ↦ elim (ℕ-discrete x b) [
-          | yes j ↦ omega (arith, moved .higher, ap (height s) j, ap (height t) j)
-          | no j ↦ omega (arith, moved .others x i j)
-        ]
-      ]
+  lower-by-one = at-and-elsewhere (λ x. height s x ≤ suc (height t x)) a b (omega (arith, moved .lower)) (omega (arith, moved .higher)) (λ x i j. omega (arith, moved .others x i j))
 
   -- what a row shows after the lift, it showed before, or it is the cassette lifted
   data Shown (x y : ℕ) : Type 0 where
     before : y ≤ height s x → slot t x y ≡ slot s x y → Shown x y
     lifted-here : slot t x y ≡ slot s a (height s a) → Shown x y
 
-  kept-row : (x k : ℕ) → x < s .m → k < height s x → k < height t x → Shown x (suc k)
-  kept-row x k h l i =
-      before (omega arith)
-      (moved .kept x k (omega (arith, p .shafts)) (omega (arith, p .heights x, p .rows x))
-      (λ z. omega (arith, moved .lower, ap (height t) (z .0))) (λ z. omega (arith, ap (height s) (z .0))))
+  kept : (x k : ℕ) → k < height s x → k < height t x → Shown x (suc k)
+  kept x k h i = before h (kept-rows s a b p q x k h i)
 
-  shown-after : (x k : ℕ) → x < s .m → k < height t x → Shown x (suc k)
-  shown-after x k h i =
-      elim (decLt k (height s x)) [
-        | yes l ↦ kept-row x k h l i
-        | no l ↦ elim (ℕ-discrete x b) [
-          | yes j ↦ (let e : k ≡ height s b = omega (arith, moved .higher, ap (height s) j, ap (height t) j) in
-              lifted-here (rw (j, e) (moved .placed)))
-          | no j ↦ elim (ℕ-discrete x a) [
-            | yes n ↦ absurd (omega (arith, moved .lower, ap (height s) n, ap (height t) n))
-            | no n ↦ absurd (omega (arith, moved .others x n j))
-          ]
-        ]
-      ]
+  shown-after : (x k : ℕ) → k < height t x → Shown x (suc k)
+  shown-after =
+      at-and-elsewhere (λ x. (k : ℕ) → k < height t x → Shown x (suc k)) a b
+      (λ k i. kept a k (omega (arith, moved .lower)) i)
+      (λ k i. elim (decLt k (height s b)) [
+        | yes l ↦ kept b k l i
+        | no l ↦ (let e : k ≡ height s b = omega (arith, moved .higher) in lifted-here (rw e (moved .placed)))
+      ])
+      (λ x m n k i. kept x k (omega (arith, moved .others x m n)) i)
 
   lift-under : (c k : ℕ) → Under s c (suc k) → Under t c k
   unfolding lifted
   lift-under c k u x zero h i j e f = absurd (omega arith)
-  lift-under c k u x (suc y) h i j e f = go (shown-after x y h j)
+  lift-under c k u x (suc y) h i j e f = go (shown-after x y j)
     where
       go : Shown x (suc y) → k + suc y ≤ height t x
       go (before l r) = omega (arith, lower-by-one x, u x (suc y) h i l (sym r ∙ e) (omega (arith, lifted-empty s a b p q)))

@@ -1,11 +1,12 @@
 -- The rows of a shaft looked at from the top downward, until one shows the number.
 use mathlib.Core.List.{List}
 use mathlib.Core.Path.{_≡_, sym, ap, _∙_}
-use Prim.Native.Nat.{ℕ, zero, suc, _+_, _-_, _*_, _≤_, _<_}
+use Prim.Native.Nat.{ℕ, _+_, _-_, _*_, _≤_, _<_}
 use native.Mathlib.Decide.{ℕ-discrete}
 use native.Mathlib.Omega.{arith}
 use lib.ListN.{getD}
 use Rattle.lifts.specs.Lifting.{shown}
+use Rattle.lifts.proofs.Moving.{shown-place}
 use Rattle.uncovering.specs.Promises.{TopRowIs}
 
 module _ (slots : List ℕ) (x rows c : ℕ) where
@@ -13,20 +14,14 @@ module _ (slots : List ℕ) (x rows c : ℕ) where
   abbrev pub NoneAbove : ℕ → Type 0
   NoneAbove r = (y : ℕ) → r < y → y ≤ rows → shown slots x y ≡ c → ⊥
 
-  -- the slot of a row
-  row-slot : (r : ℕ) → 0 < r → shown slots x r ≡ getD slots (16 * x + (r - 1)) 0
-  unfolding shown
-  row-slot zero h = absurd (omega arith)
-  row-slot (suc k) h = let e : k ≡ suc k - 1 = omega arith in ap (λ (i : ℕ). getD slots (16 * x + i) 0) e
-
   module _ (r v : ℕ) (h : 0 < r) (n : NoneAbove r) (e : v ≡ getD slots (16 * x + (r - 1)) 0) where
     pub row-found : r ≤ rows → v ≡ c → TopRowIs slots x rows c r
-    row-found i f = record { within = i; shows = λ j. row-slot r h ∙ sym e ∙ f; none-above = n }
+    row-found i f = record { within = i; shows = λ j. shown-place slots x r h ∙ sym e ∙ f; none-above = n }
 
     pub row-passed : (v ≡ c → ⊥) → NoneAbove (r - 1)
     row-passed f y i j g =
         elim (ℕ-discrete y r) [
-          | yes k ↦ f (e ∙ sym (row-slot r h) ∙ ap (shown slots x) (sym k) ∙ g)
+          | yes k ↦ f (e ∙ sym (shown-place slots x r h) ∙ ap (shown slots x) (sym k) ∙ g)
           | no k ↦ n y (omega arith) j g
         ]
 

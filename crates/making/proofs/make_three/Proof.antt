@@ -1,7 +1,8 @@
 -- `make_three` meets its contract.
 use borrow.Author.Needs.{needs}
 use Rattle.store.proofs.Acceptance.{accepted-shaped}
-use Rattle.making.proofs.Making.{count-fits, empty-counted, fits-both, play-ready, made}
+use Rattle.reach.proofs.Empties.{count-fits, empty-counted}
+use Rattle.making.proofs.Making.{fits-both, play-ready, made}
 use Rattle.making.proofs.make_three.Statement.{statement}
 use Rattle.making.proofs.make_three.Tie as tie
 

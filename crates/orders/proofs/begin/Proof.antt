@@ -1,6 +1,6 @@
 -- `begin` meets its contract: the verdict of the check, and the empty slots by the count of the marks.
 use borrow.Author.Needs.{needs}
-use Rattle.orders.proofs.Beginning.{begun-refused, count-fits, begun-accepted}
+use Rattle.orders.proofs.Beginning.{begun-refused, fits, begun-accepted}
 use Rattle.orders.proofs.begin.Statement.{statement}
 use Rattle.orders.proofs.begin.Tie as tie
 
@@ -10,8 +10,7 @@ returns c = begun-refused _ _ (c .before .before .check .ensures) (c .enum-told 
 empty-slots-requires : tie.Need-empty-slots-requires
 empty-slots-requires c κs =
     let b = c .before .before in
-    let f = count-fits _ _ (b .before .before .check .ensures) (b .enum-told2 .given .1) _ (c .count .ensures) in
-    ((f .0, f .1), f .2)
+    fits _ _ (b .before .before .check .ensures) (b .enum-told2 .given .1) _ (c .count .ensures)
 
 returns-2 : tie.Need-returns-2
 returns-2 c =

@@ -1,11 +1,7 @@
 -- `rule_holds` meets its contract: the readings for one or two shafts, the floors for three or more.
-use mathlib.Core.Path.{ap, _∙_}
-use Prim.Native.Nat.{ℕ, _-_}
-use Rattle.stacks.specs.Count.{sum}
 use Rattle.stacks.proofs.Deciding.{decides-as}
-use Rattle.store.specs.Slots.{depth, emptyCount}
 use Rattle.store.proofs.Acceptance.{accepted-shaped}
-use Rattle.reach.proofs.Agree.{count-most}
+use Rattle.reach.proofs.Empties.{count-fits, empty-counted}
 use Rattle.rules.proofs.RuleLaws.{both-hold, few-rule, more-rule}
 use Rattle.rules.proofs.rule_holds.Statement.{statement}
 use Rattle.rules.proofs.rule_holds.Tie as tie
@@ -22,8 +18,7 @@ returns c =
 
 empty-slots-requires : tie.Need-empty-slots-requires
 empty-slots-requires c κs =
-    let p = accepted-shaped _ (c .before .before .pre .0 .start) in
-    ((p .shafts, p .rows), rw (c .before .before .pre .1) (count-most _ p))
+    count-fits _ _ (accepted-shaped _ (c .before .before .pre .0 .start)) (c .before .before .pre .1)
 
 same-floors-requires : tie.Need-same-floors-requires
 same-floors-requires c κs =
@@ -31,11 +26,10 @@ same-floors-requires c κs =
     (p .shafts, p .rows)
 
 returns-2 : tie.Need-returns-2
-unfolding emptyCount
 returns-2 c =
     let p = c .before .before .before .before .before .before .before .before .pre in
     let s = c .before .before .before .before .before .before .before .before .args .start in
-    let e = more-rule _ _ (p .0) _ (c .before .before .before .before .before .empty-slots .ensures ∙ ap (λ (n : ℕ). sum (s .m) (depth s) - n) (p .1)) (c .before .before .before .before .before .before .if1 .left) in
+    let e = more-rule _ _ (p .0) _ (empty-counted s _ _ (p .1) (c .before .before .before .before .before .empty-slots .ensures)) (c .before .before .before .before .before .before .if1 .left) in
     decides-as (e .0) (e .1) (c .same-floors .ensures)
 
 pub rule-holds-spec : {M : Type 1} → statement M
