@@ -6,17 +6,13 @@ use native.Mathlib.Decide.{decLt}
 use native.Mathlib.Omega.{arith}
 use lib.ListN.{length, getD, take, set, replicate, length-set, List·getD-append}
 use lib.Seq.{take-suc, take-all, take-take, take-append-le, take-set-le, length-take-le, set-at, append-snoc, getD-append-add, getD-take, getD-set-same, set-getD}
+use Rattle.marks.proofs.MarkLaws.{zeros}
 use Rattle.lifts.specs.Lifting.{mostShafts, slotCount, shown}
 use Rattle.store.specs.declared.Store.{Store}
 use Rattle.rows.specs.Rows.{rowsUp}
 
 abbrev pub cutAt : ℕ → ℕ → List ℕ → List ℕ
 cutAt n p l = take p l ++ replicate (n - p) 0
-
-zeros : (n i : ℕ) → _≡_ {A = ℕ} (getD (replicate n 0) i 0) 0
-zeros zero i = refl
-zeros (suc n) zero = refl
-zeros (suc n) (suc i) = zeros n i
 
 module _ (n : ℕ) (l : List ℕ) (sized : length l ≡ n) where
   -- a place before the cut, and one after it

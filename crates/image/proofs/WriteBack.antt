@@ -18,7 +18,7 @@ use Rattle.store.specs.declared.Store.{Store}
 use Rattle.store.specs.Slots.{held, depth, height, slot, upward, cassettesBelow}
 use Rattle.rows.specs.Rows.{rowsUp, rowsFault}
 use Rattle.store.specs.Accept.{shaftsFault}
-use Rattle.store.proofs.Typed.{numbered-set}
+use Rattle.store.proofs.Typed.{below-set}
 use Rattle.rows.proofs.Walk.{row-passed}
 use Rattle.store.proofs.Walk.{shaft-passed, by-rows}
 use Rattle.image.specs.Image.{heightWidth, cassetteWidth, columnBits, columnsBits, shaftBits, shaftsBits}
@@ -80,7 +80,7 @@ module _ (n : ℕ) (narrow : 2 ^ n ≤ numbers) (s : Store) (x : ℕ) (below : x
         after = cc (append-assoc b up (v ∷ []), p .1);
         begins = cc (r .begins, f .is .begins, packed-append n up (v ∷ []), append-nil (bits n v), append-assoc (packed n up) (bits n v) (drop n (r .left)));
         sized = length-set (r .slots) i v ∙ r .sized;
-        numbered = numbered-set (r .slots) i v (lt-of-lt-of-le (rw (f .is .value) (field-lt _ n)) narrow) (r .numbered);
+        numbered = below-set (r .slots) i v (lt-of-lt-of-le (rw (f .is .value) (field-lt _ n)) narrow) (r .numbered);
         low = rw add-suc (low-set slotCount (r .slots) i v (r .sized) (omega arith) (r .low));
         under = cut-before slotCount (r .slots) (r .sized) (16 * x) i v (omega arith) ∙ r .under;
         clean = row-passed b new x k (faults-agree b new (r .slots) x k kept ∙ r .clean) (rw (same, top) (p .0));

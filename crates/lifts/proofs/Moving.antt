@@ -15,7 +15,7 @@ unfolding shown
 shown-place l x zero h = absurd (omega arith)
 shown-place l x (suc k) h = ap (λ (n : ℕ). getD l (16 * x + n) 0) (omega arith)
 
-placed-place : (l : List ℕ) (x y c : ℕ) → 0 < y → placedAt l x y c ≡ set l (16 * x + (y - 1)) c
+pub placed-place : (l : List ℕ) (x y c : ℕ) → 0 < y → placedAt l x y c ≡ set l (16 * x + (y - 1)) c
 unfolding placedAt
 placed-place l x zero c h = absurd (omega arith)
 placed-place l x (suc k) c h = ap (λ (n : ℕ). set l (16 * x + n) c) (omega arith)

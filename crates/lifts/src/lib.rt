@@ -3,7 +3,7 @@
 use marks::Cassette;
 ghost use mathlib.Core.Path.{_≡_};
 ghost use Prim.Native.Nat.{_<_};
-ghost use lib.ListN.{getD};
+ghost use lib.ListN.{length, getD};
 ghost use Rattle.lifts.specs.Carried.{CanCarry, CarriedIs};
 ghost use Rattle.lifts.specs.Lifting.{mostShafts, slotCount, heightIn, refusalBy};
 ghost use Rattle.lifts.specs.Numbers.{Only, judgedNumber};
@@ -60,6 +60,15 @@ pub fn height_at(heights: &Heights, x: usize) -> u8
     ensures { λ r. ⌜ r ≡ heightIn (now (heights .entry)) x ⌝ }
 {
     heights[x]
+}
+
+// The height of a shaft; 0 for a shaft above 15.
+pub fn height_of(heights: &Heights, x: Shaft) -> u8
+    requires { ⌜ length (now heights) ≡ mostShafts ⌝ }
+    ensures { λ r. ⌜ r ≡ heightIn (now (heights .entry)) (x .0) ⌝ }
+{
+    let i = x.0 as usize;
+    if i < 16 { heights[i] } else { 0 }
 }
 
 // The slot at a place.

@@ -1,6 +1,7 @@
 pub mod Agree
 pub mod Empties
 pub mod Lasting
+pub mod OnePlace
 pub mod Reachability
 pub mod RuleTests
 pub mod Sets

@@ -6,32 +6,45 @@ use native.Mathlib.Decide.{ℕ-discrete}
 use lib.ListN.{length}
 use Rattle.lifts.specs.Bytes.{left, entered}
 use Rattle.store.specs.declared.Store.{Store}
+use Rattle.store.specs.Accept.{storeFault}
 use Rattle.store.specs.Lifts.{liftRefusal, lifted}
-use Rattle.store.specs.Lists.{Leads, ended, then}
+use Rattle.store.specs.Lists.{Leads, ended, then, Reachable}
+use Rattle.store.specs.Slots.{topOf}
 use Rattle.store.proofs.Refusals.{allowed-none, none-allowed}
-use Rattle.replay.specs.Replaying.{oneMore, replayFrom}
+use Rattle.replay.specs.Replaying.{Outcome, oneMore, noneDone, replayFrom, replay}
 
 -- an allowed lift is done, and counted
 pub replay-goes : (s : Store) (b : ℕ) (bs : List ℕ) → liftRefusal s (left b) (entered b) ≡ 0
-    → replayFrom s (b ∷ bs) ≡ oneMore (replayFrom (lifted s (left b) (entered b)) bs)
+    → replayFrom s (b ∷ bs) ≡ oneMore (topOf s (left b)) (replayFrom (lifted s (left b) (entered b)) bs)
 unfolding replayFrom
 replay-goes s b bs e = rw (e, replayFrom)
 
 -- a refused one stops the replay, with its number
 pub replay-stops : (s : Store) (b : ℕ) (bs : List ℕ) (k : ℕ) → liftRefusal s (left b) (entered b) ≡ k → (k ≡ 0 → ⊥)
-    → replayFrom s (b ∷ bs) ≡ record { reached = s; count = 0; number = k }
+    → replayFrom s (b ∷ bs) ≡ noneDone s k
 unfolding replayFrom
 replay-stops s b bs zero e n = absurd (n refl)
 replay-stops s b bs (suc k) e n = rw (e, replayFrom)
 
--- a list that leads to t is replayed to its end, and to t
-runs-through : {s t : Store} {bs : List ℕ} → Leads s bs t → replayFrom s bs ≡ record { reached = t; count = length bs; number = 0 }
-unfolding replayFrom
-runs-through ended = refl
-runs-through (then {s} {t} {b} {bs} q r) = replay-goes s b bs (allowed-none s (left b) (entered b) q) ∙ ap oneMore (runs-through r)
+-- the store's own fault comes first
+pub replay-accepted : (s : Store) (bs : List ℕ) → storeFault s ≡ 0 → replay s bs ≡ replayFrom s bs
+unfolding replay
+replay-accepted s bs e = rw (e, replay)
 
-pub replay-leads : (s : Store) (bs : List ℕ) (t : Store) → Leads s bs t → replayFrom s bs ≡ record { reached = t; count = length bs; number = 0 }
-replay-leads s bs t l = runs-through l
+pub replay-refuses : (s : Store) (bs : List ℕ) (k : ℕ) → storeFault s ≡ k → (k ≡ 0 → ⊥) → replay s bs ≡ noneDone s k
+unfolding replay
+replay-refuses s bs zero e n = absurd (n refl)
+replay-refuses s bs (suc k) e n = rw (e, replay)
+
+-- a list that leads to t is replayed to its end, and to t
+pub replay-leads : {s t : Store} {bs : List ℕ} → Leads s bs t
+    → (replayFrom s bs .reached ≡ t) × (replayFrom s bs .count ≡ length bs) × (replayFrom s bs .number ≡ 0)
+unfolding replayFrom
+replay-leads ended = (refl, refl, refl)
+replay-leads (then {s} {t} {b} {bs} q r) =
+    let g = replay-goes s b bs (allowed-none s (left b) (entered b) q) in
+    let p = replay-leads r in
+    (ap (λ (o : Outcome). o .reached) g ∙ p .0, ap (λ (o : Outcome). o .count) g ∙ ap suc (p .1), ap (λ (o : Outcome). o .number) g ∙ p .2)
 
 -- a list replayed to its end leads to the store reached
 pub leads-replay : (s : Store) (bs : List ℕ) → replayFrom s bs .number ≡ 0 → Leads s bs (replayFrom s bs .reached)
@@ -42,4 +55,16 @@ leads-replay s (b ∷ bs) e =
       | yes u ↦ rw (replay-goes s b bs u)
           (then (none-allowed s (left b) (entered b) u) (leads-replay (lifted s (left b) (entered b)) bs (rw (replay-goes s b bs u) at e)))
       | no n ↦ absurd (n (rw (replay-stops s b bs _ refl n) at e))
+    ]
+
+-- the lifts that a replay did lead to the store that it reached
+pub from-reaches : (s : Store) (bs : List ℕ) → Reachable s (replayFrom s bs .reached)
+unfolding replayFrom
+from-reaches s [] = record { lifts = []; leads = ended }
+from-reaches s (b ∷ bs) =
+    elim (ℕ-discrete (liftRefusal s (left b) (entered b)) 0) [
+      | yes u ↦ rw (replay-goes s b bs u)
+          (let q = from-reaches (lifted s (left b) (entered b)) bs in
+          record { lifts = b ∷ q .lifts; leads = then (none-allowed s (left b) (entered b) u) (q .leads) })
+      | no n ↦ rw (replay-stops s b bs _ refl n) (record { lifts = []; leads = ended })
     ]

@@ -1,3 +1,4 @@
+pub mod Counting
 pub mod Numbers
 pub mod Promises
 pub mod Replaying

@@ -1,25 +1,27 @@
 // The replay of a list of lifts (document 01, "Which comes first"): run through, or stopped at the first lift that is refused.
-use depths::depth_of;
 use lift_bytes::entered_of;
 use lift_bytes::left_of;
 use lifts::Heights;
 use lifts::Judged;
 use lifts::Refusal;
+use lifts::Row;
 use lifts::Shaft;
 use lifts::Slots;
-use lifts::carry;
 use lifts::height_at;
-use lifts::judge;
+use marks::Cassette;
+use std::num::wrapping_add_usize;
 use store::Fault;
 use store::Store;
 use store::Verdict;
-ghost use Prim.Native.Nat.{_<_};
-ghost use Rattle.lifts.specs.Lifting.{mostShafts, heightIn, refusalBy};
-ghost use Rattle.lifts.specs.Numbers.{Only, judgedNumber};
+use store::lift::try_lift;
+ghost use mathlib.Core.Path.{_≡_};
+ghost use Prim.Native.Nat.{_+_, _-_, _*_, _%_, _^_};
+ghost use Rattle.marks.specs.Cassettes.{given};
+ghost use Rattle.lifts.specs.Lifting.{heightIn};
+ghost use Rattle.store.specs.Accept.{Accepted};
 ghost use Rattle.store.specs.Slots.{held};
-ghost use Rattle.depths.specs.Depths.{depthBy};
-ghost use Rattle.store.specs.Sound.{Shaped};
-ghost use Rattle.replay.specs.Promises.{ReplayIs};
+ghost use Rattle.replay.specs.Counting.{NoneCounted, CanCount, CountIs};
+ghost use Rattle.replay.specs.Promises.{carriesOf, PlayIs, ReplayIs};
 ghost use Rattle.replay.specs.Replaying.{replayFrom, replay};
 
 // How a replay ends.
@@ -29,11 +31,40 @@ pub enum End {
     StoreRefused(Fault),
 }
 
-// The store reached, the count of lifts done, and how the replay ended.
+// A count beside each slot of a store: how often the cassette that stands there was carried. 0 beside an empty slot.
+pub type Carries = [usize; 256];
+
+// The store reached, how often each of its cassettes was carried, the count of lifts done, and how the replay ended.
 pub struct Replayed {
     pub store: Store,
+    pub carries: Carries,
     pub count: usize,
     pub end: End,
+}
+
+// The count, or 0 where the test fails.
+fn count_if(test: bool, times: usize) -> usize
+    ensures { λ r. ⌜ r ≡ given test times ⌝ }
+{
+    if test { times } else { 0 }
+}
+
+impl Replayed {
+    // How often a cassette was carried: the counts beside the slots that show it, added up.
+    pub fn carries_of(self, c: Cassette) -> usize
+        ensures { λ r. ⌜ r ≡ carriesOf c (self .store .slots) (self .carries) % 2 ^ 64 ⌝ }
+    {
+        let store = self.store;
+        let slots = store.slots;
+        let carries = self.carries;
+        let mut times: usize = 0;
+        let mut i: usize = 0;
+        while i < 256 {
+            times = wrapping_add_usize(times, count_if(c == slots[i], carries[i]));
+            i += 1;
+        }
+        times
+    }
 }
 
 // The count of lifts done, and how the replay ended.
@@ -42,33 +73,57 @@ pub struct Played {
     pub end: End,
 }
 
-// Whether a lift is allowed by the heights of a store, or else why not.
-fn judge_at(m: u8, h: u8, heights: &Heights, from: Shaft, to: Shaft) -> Judged
-    requires { ⌜ (from .0 < mostShafts) × (to .0 < mostShafts) ⌝ }
-    ensures { λ r. ⌜ Only judgedNumber (refusalBy m (depthBy h (to .0)) (from .0) (to .0) (heightIn (now (heights .entry)) (from .0)) (heightIn (now (heights .entry)) (to .0))) r ⌝ }
+// A count of 0 beside each slot.
+fn no_carries() -> Carries
+    ensures { λ r. ⌜ NoneCounted r ⌝ }
 {
-    let left = height_at(heights, from.0 as usize);
-    let entered = height_at(heights, to.0 as usize);
-    judge(m, depth_of(h, to.0 as usize), from, to, left, entered)
+    [0; 256]
 }
 
-// The lifts of a list, one after the other, on an accepted store of m shafts and depth h, whose heights and slots are changed in place.
-fn play(m: u8, h: u8, heights: &mut Heights, slots: &mut Slots, list: &[u8]) -> Played
-    requires { ⌜ Shaped (held m h (now heights) (now slots)) ⌝ }
-    ensures { λ r. ⌜ ReplayIs (replayFrom (held m h (now (heights .entry)) (now (slots .entry))) (now (list .entry))) (record { store = held m h (now (heights .exit)) (now (slots .exit)); count = r .count; end = r .end }) ⌝ }
+// After a lift that landed in a row: the count of its cassette goes with it, one more. Where no counts are lent, none is kept.
+fn count_carry(carries: &mut [usize], heights: &Heights, from: Shaft, to: Shaft, row: Row)
+    requires { ⌜ CanCount (now carries) (now heights) (from .0) (to .0) (row .0) ⌝ }
+    ensures { λ r. ⌜ CountIs (now (carries .entry)) (16 * from .0 + heightIn (now (heights .entry)) (from .0)) (16 * to .0 + (row .0 - 1)) (now (carries .exit)) ⌝ }
+{
+    if carries.len() != 256 {
+        return;
+    }
+    let left = 16 * (from.0 as usize) + (height_at(heights, from.0 as usize) as usize);
+    let times = carries[left];
+    carries[left] = 0;
+    carries[16 * (to.0 as usize) + (row.0 as usize - 1)] = times + 1;
+}
+
+// The lifts of a list, one after the other, on an accepted store of m shafts and depth h, whose heights and slots are changed in place. A
+// count beside each slot is lent, all of them 0, or none, where nobody asks how often a cassette was carried.
+pub fn play(
+    m: u8,
+    h: u8,
+    heights: &mut Heights,
+    slots: &mut Slots,
+    carries: &mut [usize],
+    list: &[u8],
+) -> Played
+    requires { ⌜ Accepted (held m h (now heights) (now slots)) ⌝ }
+    requires { ⌜ NoneCounted (now carries) ⌝ }
+    ensures { λ r. ⌜ PlayIs (replayFrom (held m h (now (heights .entry)) (now (slots .entry))) (now (list .entry))) (held m h (now (heights .exit)) (now (slots .exit))) (now (carries .exit)) r ⌝ }
 {
     let mut count: usize = 0;
     while count < list.len() {
         let b = list[count];
         let from = left_of(b);
         let to = entered_of(b);
-        if let Judged::Refused(r) = judge_at(m, h, heights, from, to) {
+        let tried = try_lift(m, h, heights, slots, from, to);
+        let judged = tried.judged;
+        if let Judged::Refused(r) = judged {
             return Played {
                 count,
                 end: End::Stopped(r),
             };
         }
-        carry(heights, slots, from, to);
+        let carried = tried.carried;
+        let row = carried.row;
+        count_carry(carries, heights, from, to, row);
         count += 1;
     }
     Played {
@@ -81,18 +136,20 @@ fn play(m: u8, h: u8, heights: &mut Heights, slots: &mut Slots, list: &[u8]) -> 
 pub fn replay(s: Store, list: &[u8]) -> Replayed
     ensures { λ r. ⌜ ReplayIs (replay s (now (list .entry))) r ⌝ }
 {
+    let mut carries = no_carries();
     let checked = s.check();
     let verdict = checked.verdict;
     if let Verdict::Refused(f) = verdict {
         return Replayed {
             store: s,
+            carries,
             count: 0,
             end: End::StoreRefused(f),
         };
     }
     let mut heights = s.heights;
     let mut slots = s.slots;
-    let played = play(s.m, s.h, &mut heights, &mut slots, list);
+    let played = play(s.m, s.h, &mut heights, &mut slots, &mut carries, list);
     let end = played.end;
     Replayed {
         store: Store {
@@ -101,6 +158,7 @@ pub fn replay(s: Store, list: &[u8]) -> Replayed
             heights,
             slots,
         },
+        carries,
         count: played.count,
         end,
     }

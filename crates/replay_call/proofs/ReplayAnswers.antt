@@ -7,12 +7,13 @@ use native.Mathlib.Omega.{arith}
 use lib.Dec.{ltb}
 use lib.ListN.{length, getD, drop}
 use Rattle.store.specs.declared.Store.{Store}
-use Rattle.replay.specs.declared.Replayed.{Replayed}
+use Rattle.replay.specs.declared.Played.{Played}
 use Rattle.store.specs.Accept.{Accepted}
 use Rattle.marks.specs.Cassettes.{given, first}
-use Rattle.replay.specs.Replaying.{replay}
+use Rattle.replay.specs.Replaying.{replayFrom, replay}
 use Rattle.replay.specs.Numbers.{endNumber}
-use Rattle.replay.specs.Promises.{ReplayIs}
+use Rattle.replay.specs.Promises.{PlayIs}
+use Rattle.replay.proofs.Replays.{replay-accepted}
 use Rattle.store.proofs.Acceptance.{accepted-shaped}
 use Rattle.marks.proofs.Faulted.{first-stays}
 use Rattle.moves.specs.Written.{written}
@@ -65,11 +66,12 @@ module _ {a list came : List ℕ} where
         (fault-left came e ∙ ap (λ b. given b 10) (lt-ltb (length came) (imageLength s) (omega (arith, length-read small e))))
         (λ z. omega arith)
 
-    pub replay-answered : {o : Replayed} {out : List ℕ} {w : Written} {n r : ℕ} → length a ≤ length came → ReplayIs (replay s list) o → WriteIs (o .store) came out w
-        → n ≡ endNumber (o .end) → r ≡ answerOf (o .count) n → ReplayCallIs a list came r out
-    replay-answered {o} {out} {w} {n} {r} h p q g k =
+    pub replay-answered : {u : Store} {carries : List ℕ} {o : Played} {out : List ℕ} {w : Written} {n r : ℕ} → length a ≤ length came → PlayIs (replayFrom s list) u carries o
+        → WriteIs u came out w → n ≡ endNumber (o .end) → r ≡ answerOf (o .count) n → ReplayCallIs a list came r out
+    replay-answered {u} {carries} {o} {out} {w} {n} {r} h d q g k =
         let t = replay s list .reached in
         let b = read-written a s small (e .is) .0 in
+        let p : PlayIs (replay s list) u carries o = rw (replay-accepted s list b) d in
         let l = replay-reaches s list b .leads in
         let i : imageLength s ≤ length came = omega (arith, length-read small e) in
         let j : imageLength t ≤ length came = omega (arith, leads-length (accepted-shaped s b) l) in

@@ -3,7 +3,8 @@ use calls::answer;
 use calls::read_one;
 use calls::refused;
 use numbers::end_number;
-use replay::replay;
+use replay::play;
+use store::Store;
 use writing::write;
 ghost use Rattle.replay_call.specs.ReplayCall.{ReplayCallIs};
 
@@ -20,9 +21,17 @@ pub fn call_replay(image: &[u8], list: &[u8], out: &mut [u8]) -> u64
         return refused(10, out);
     }
     let s = one.store;
-    let replayed = replay(s, list);
-    let reached = replayed.store;
+    let mut heights = s.heights;
+    let mut slots = s.slots;
+    let mut uncounted: [usize; 0] = [];
+    let played = play(s.m, s.h, &mut heights, &mut slots, &mut uncounted, list);
+    let reached = Store {
+        m: s.m,
+        h: s.h,
+        heights,
+        slots,
+    };
     write(reached, out);
-    let end = replayed.end;
-    answer(replayed.count, end_number(end))
+    let end = played.end;
+    answer(played.count, end_number(end))
 }

@@ -1,6 +1,7 @@
 pub mod Acceptance
 pub mod Checks
 pub mod InPlace
+pub mod LiftExact
 pub mod Lifting
 pub mod Numbered
 pub mod Once

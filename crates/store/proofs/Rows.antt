@@ -10,13 +10,13 @@ use Rattle.lifts.specs.Lifting.{shown, placedAt}
 use Rattle.store.specs.declared.Store.{Store}
 use Rattle.store.specs.Slots.{height, slot, downward, stack}
 use Rattle.rows.specs.Rows.{rowsDown}
-use Rattle.store.proofs.Typed.{numbered-set}
+use Rattle.store.proofs.Typed.{below-set}
 
 -- slots of which one row is written
 pub placed-numbered : (l : List ℕ) (x n c : ℕ) → c < numbers → ((i : ℕ) → getD l i 0 < numbers) → (i : ℕ) → getD (placedAt l x n c) i 0 < numbers
 unfolding placedAt
 placed-numbered l x zero c h b = b
-placed-numbered l x (suc k) c h b = numbered-set l (16 * x + k) c h b
+placed-numbered l x (suc k) c h b = below-set l (16 * x + k) c h b
 
 pub slot-numbered : (s : Store) (x n : ℕ) → ((i : ℕ) → getD (s .slots) i 0 < numbers) → slot s x n < numbers
 unfolding shown

@@ -22,9 +22,10 @@ unfolding allShown
 all-shown [] b = refl
 all-shown (c ∷ l) b = simp (lt-ltb c numbers (b 0), all-shown l (λ i. b (suc i)))
 
-pub numbered-set : (l : List ℕ) (k v : ℕ) → v < numbers → ((i : ℕ) → getD l i 0 < numbers) → (i : ℕ) → getD (set l k v) i 0 < numbers
-numbered-set [] k v h b i = b i
-numbered-set (c ∷ l) zero v h b zero = h
-numbered-set (c ∷ l) zero v h b (suc i) = b (suc i)
-numbered-set (c ∷ l) (suc k) v h b zero = b 0
-numbered-set (c ∷ l) (suc k) v h b (suc i) = numbered-set l k v h (λ j. b (suc j)) i
+-- a bound of every number of a list holds after one of them is set below it
+pub below-set : {n : ℕ} (l : List ℕ) (k v : ℕ) → v < n → ((i : ℕ) → getD l i 0 < n) → (i : ℕ) → getD (set l k v) i 0 < n
+below-set [] k v h b i = b i
+below-set (c ∷ l) zero v h b zero = h
+below-set (c ∷ l) zero v h b (suc i) = b (suc i)
+below-set (c ∷ l) (suc k) v h b zero = b 0
+below-set (c ∷ l) (suc k) v h b (suc i) = below-set l k v h (λ j. b (suc j)) i

@@ -36,6 +36,10 @@ height s x = heightIn (s .heights) x
 abbrev pub slot : Store → ℕ → ℕ → ℕ
 slot s x y = shown (s .slots) x y
 
+-- the cassette on top of shaft x
+abbrev pub topOf : Store → ℕ → ℕ
+topOf s x = slot s x (height s x)
+
 -- the store has row y of shaft x
 abbrev pub hasSlot : Store → ℕ → ℕ → Bool
 hasSlot s = slotThere (s .m) (s .h)

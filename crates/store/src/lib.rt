@@ -3,7 +3,9 @@
 pub mod accept;
 pub mod lift;
 
+use lifts::Carried;
 use lifts::Heights;
+use lifts::Judged;
 use lifts::Refusal;
 use lifts::Slots;
 use marks::Words;
@@ -44,8 +46,16 @@ pub enum Answer {
     LiftRefused(Refusal),
 }
 
-// The store after a single lift, or the store as it came where the lift is refused.
+// The store after a single lift and the cassette that it carried with the row it landed in; where the lift is refused, the store as it came,
+// cassette 0 and row 0.
 pub struct Lifted {
     pub store: Store,
+    pub carried: Carried,
     pub answer: Answer,
+}
+
+// Whether a lift tried in place was allowed, and then what it carried; else cassette 0 and row 0.
+pub struct Tried {
+    pub judged: Judged,
+    pub carried: Carried,
 }

@@ -3,50 +3,70 @@
 use crate::Answer;
 use crate::Lifted;
 use crate::Store;
+use crate::Tried;
 use crate::Verdict;
 use depths::depth_of;
 use depths::slot_there;
+use lifts::Carried;
+use lifts::Heights;
 use lifts::Judged;
 use lifts::Row;
 use lifts::Shaft;
+use lifts::Slots;
 use lifts::carry;
+use lifts::height_of;
 use lifts::judge;
 use marks::Cassette;
 ghost use mathlib.Core.Path.{_≡_};
-ghost use Rattle.lifts.specs.Numbers.{Only, judgedNumber};
-ghost use Rattle.store.specs.Slots.{height, hasSlot, contentOf};
-ghost use Rattle.store.specs.Lifts.{Allowed, liftRefusal, lifted};
-ghost use Rattle.store.specs.Promises.{LiftIs};
+ghost use Rattle.lifts.specs.Numbers.{judgedNumber};
+ghost use Rattle.store.specs.Numbers.{answerNumber};
+ghost use Rattle.store.specs.Slots.{held, height, hasSlot, contentOf};
+ghost use Rattle.store.specs.Promises.{TriedIs, LiftIs};
 ghost use Rattle.store.specs.Sound.{Shaped};
 
-// Whether a lift is allowed in a store, or else why not.
-fn judge_in(s: Store, from: Shaft, to: Shaft) -> Judged
-    ensures { λ r. ⌜ Only judgedNumber (liftRefusal s (from .0) (to .0)) r ⌝ }
+// What is told of a lift that is refused: cassette 0, row 0.
+fn nothing() -> Carried
+    ensures { λ r. ⌜ (r .cassette ≡ 0) × (r .row .0 ≡ 0) ⌝ }
 {
-    judge(
-        s.m,
-        depth_of(s.h, to.0 as usize),
-        from,
-        to,
-        s.height(from),
-        s.height(to),
-    )
+    Carried {
+        cassette: 0,
+        row: Row(0),
+    }
 }
 
-// The store after an allowed lift.
-fn carried_in(s: Store, from: Shaft, to: Shaft) -> Store
-    requires { ⌜ Shaped s ⌝ }
-    requires { ⌜ Allowed s (from .0) (to .0) ⌝ }
-    ensures { λ r. ⌜ r ≡ lifted s (from .0) (to .0) ⌝ }
+// A lift tried in the heights and the slots of a store of m shafts and depth h: made in place, or refused and nothing changed.
+pub fn try_lift(
+    m: u8,
+    h: u8,
+    heights: &mut Heights,
+    slots: &mut Slots,
+    from: Shaft,
+    to: Shaft,
+) -> Tried
+    requires { ⌜ Shaped (held m h (now heights) (now slots)) ⌝ }
+    ensures { λ r. ⌜ TriedIs (held m h (now (heights .entry)) (now (slots .entry))) (from .0) (to .0) (held m h (now (heights .exit)) (now (slots .exit))) r ⌝ }
 {
-    let mut heights = s.heights;
-    let mut slots = s.slots;
-    carry(&mut heights, &mut slots, from, to);
-    Store {
-        m: s.m,
-        h: s.h,
-        heights,
-        slots,
+    let left = height_of(heights, from);
+    let entered = height_of(heights, to);
+    if let Judged::Refused(r) = judge(m, depth_of(h, to.0 as usize), from, to, left, entered) {
+        return Tried {
+            judged: Judged::Refused(r),
+            carried: nothing(),
+        };
+    }
+    Tried {
+        judged: Judged::Allowed,
+        carried: carry(heights, slots, from, to),
+    }
+}
+
+// The answer of a single lift on an accepted store.
+fn answer_of(judged: Judged) -> Answer
+    ensures { λ r. ⌜ answerNumber r ≡ judgedNumber judged ⌝ }
+{
+    match judged {
+        Judged::Allowed => Answer::Done,
+        Judged::Refused(r) => Answer::LiftRefused(r),
     }
 }
 
@@ -55,8 +75,8 @@ impl Store {
     pub fn height(self, x: Shaft) -> u8
         ensures { λ r. ⌜ r ≡ height self (x .0) ⌝ }
     {
-        let i = x.0 as usize;
-        if i < 16 { self.heights[i] } else { 0 }
+        let heights = self.heights;
+        height_of(&heights, x)
     }
 
     // Whether the store has a row of a shaft.
@@ -78,7 +98,7 @@ impl Store {
         self.slots[16 * i + (row - 1)]
     }
 
-    // One lift: the changed store, or the store as it came with the number that refuses it.
+    // One lift: the changed store and the cassette that was carried, or the store as it came with the number that refuses it.
     pub fn lift(self, from: Shaft, to: Shaft) -> Lifted
         ensures { λ r. ⌜ LiftIs self (from .0) (to .0) r ⌝ }
     {
@@ -87,18 +107,24 @@ impl Store {
         if let Verdict::Refused(f) = verdict {
             return Lifted {
                 store: self,
+                carried: nothing(),
                 answer: Answer::StoreRefused(f),
             };
         }
-        if let Judged::Refused(r) = judge_in(self, from, to) {
-            return Lifted {
-                store: self,
-                answer: Answer::LiftRefused(r),
-            };
-        }
+        let mut heights = self.heights;
+        let mut slots = self.slots;
+        let tried = try_lift(self.m, self.h, &mut heights, &mut slots, from, to);
+        let judged = tried.judged;
+        let carried = tried.carried;
         Lifted {
-            store: carried_in(self, from, to),
-            answer: Answer::Done,
+            store: Store {
+                m: self.m,
+                h: self.h,
+                heights,
+                slots,
+            },
+            carried,
+            answer: answer_of(judged),
         }
     }
 }

@@ -5,6 +5,7 @@ use lifts::Shaft;
 use numbers::answer_number;
 use numbers::end_number;
 use numbers::verdict_number;
+use replay::Replayed;
 use replay::replay;
 use store::Store;
 
@@ -128,10 +129,17 @@ fn lift(what: &[u8], s: Store, from: u8, to: u8) {
     let lifted = s.lift(Shaft(from), Shaft(to));
     let answer = lifted.answer;
     say(what, answer_number(answer));
+    let carried = lifted.carried;
+    let row = carried.row;
+    say(b"  cassette: ", carried.cassette);
+    say(b"  row: ", row.0);
+    let after = lifted.store;
+    say(b"  there now: ", after.content(Shaft(to), Row(row.0)));
 }
 
 fn lift_cases() {
     lift(b"lift 0>1: ", example(), 0, 1);
+    lift(b"lift 0>2, onto a cassette: ", example(), 0, 2);
     lift(b"lift 0>0: ", example(), 0, 0);
     lift(b"lift 0>3: ", example(), 0, 3);
     lift(b"lift 200>1: ", example(), 200, 1);
@@ -140,12 +148,23 @@ fn lift_cases() {
     lift(b"lift in a store of m 0: ", empty(0, 1), 0, 1);
 }
 
+// How often the cassettes 1 and 2 were carried, and number 0.
+fn say_carries(replayed: Replayed) {
+    io::write_all(STDOUT_FILENO, b"\n  carries of 1, 2 and 0: ");
+    io::print_decimal(STDOUT_FILENO, replayed.carries_of(1) as u64);
+    io::write_all(STDOUT_FILENO, b" ");
+    io::print_decimal(STDOUT_FILENO, replayed.carries_of(2) as u64);
+    io::write_all(STDOUT_FILENO, b" ");
+    io::print_decimal(STDOUT_FILENO, replayed.carries_of(0) as u64);
+}
+
 fn show_replay(what: &[u8], s: Store, list: &[u8]) {
     let replayed = replay(s, list);
     let end = replayed.end;
     say(what, end_number(end));
     io::write_all(STDOUT_FILENO, b"  lifts done: ");
     io::print_decimal(STDOUT_FILENO, replayed.count as u64);
+    say_carries(replayed);
     let reached = replayed.store;
     say(b"\n  shaft 0 row 1: ", reached.content(Shaft(0), Row(1)));
     say(b"  shaft 1 row 1: ", reached.content(Shaft(1), Row(1)));
@@ -155,6 +174,8 @@ fn show_replay(what: &[u8], s: Store, list: &[u8]) {
 fn replay_cases() {
     show_replay(b"02 10 21 on [1] [2] []: ", singles(), b"\x02\x10\x21");
     show_replay(b"02 21 00 on [1] [2] []: ", singles(), b"\x02\x21\x00");
+    show_replay(b"02 20 00 on [1] [2] []: ", singles(), b"\x02\x20\x00");
+    show_replay(b"02 01 on [1] [2] []: ", singles(), b"\x02\x01");
     show_replay(b"an empty list on [1] [2] []: ", singles(), b"");
     show_replay(b"02 on a store of m 200: ", empty(200, 1), b"\x02");
 }

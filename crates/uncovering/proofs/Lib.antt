@@ -3,6 +3,5 @@ pub mod Answers
 pub mod Cleared
 pub mod Covered
 pub mod Exact
-pub mod OnePlace
 pub mod Rule
 pub mod TopRow

@@ -11,10 +11,10 @@ use Rattle.store.specs.declared.Store.{Store}
 use Rattle.store.specs.Slots.{depth, height, slot, emptyCount}
 use Rattle.store.specs.Accept.{Accepted}
 use Rattle.store.proofs.Acceptance.{accepted-shaped}
+use Rattle.reach.proofs.OnePlace.{one-place}
 use Rattle.uncovering.specs.Uncovering.{Uncovers, Fewest}
 use Rattle.uncovering.proofs.Cleared.{cleared}
 use Rattle.uncovering.proofs.Covered.{Under, none-sooner}
-use Rattle.uncovering.proofs.OnePlace.{one-place}
 
 -- some list uncovers c
 pub record Uncoverable (s : Store) (c : ℕ) : Type 0 where

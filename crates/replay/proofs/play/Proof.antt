@@ -1,66 +1,73 @@
--- `play` meets its contract. The invariant: the replay of the whole list goes on from the store reached with what is left of the list.
+-- `play` meets its contract. The invariant: the replay of the whole list goes on from the store reached with what is left of the list, and the counts are
+-- those of the lifts before.
 use borrow.Author.Needs.{needs}
-use mathlib.Core.Path.{_≡_, sym, ap, _∙_, subst}
-use Prim.Native.Nat.{_-_, _≤_}
+use mathlib.Core.List.{List}
+use mathlib.Core.Path.{_≡_, refl, sym, ap, _∙_, subst}
+use Prim.Native.Nat.{ℕ, _+_, _-_, _≤_}
 use native.Mathlib.Omega.{arith}
+use mir.Syntax.{w64}
+use mir.Val.{Fits}
 use lib.ListN.{length}
 use Rattle.lifts.specs.Numbers.{judgedNumber}
+use Rattle.lifts.proofs.Numbered.{refusal-one}
 use Rattle.store.specs.declared.Store.{Store}
-use Rattle.store.specs.Lifts.{liftRefusal}
+use Rattle.store.specs.Lifts.{liftRefusal, lifted}
 use Rattle.store.specs.Slots.{held}
 use Rattle.store.specs.Sound.{Shaped}
-use Rattle.store.proofs.Lifting.{can-carry, carried-store}
+use Rattle.store.proofs.Acceptance.{accepted-shaped}
+use Rattle.store.proofs.Lifting.{tried-stays, tried-lifts}
 use Rattle.store.proofs.Refusals.{none-allowed}
 use Rattle.store.proofs.Views.{lifted-shaped}
-use Rattle.replay.proofs.Playing.{Goes, same-lift, goes-start, goes-lifted, goes-stopped, goes-through}
+use Rattle.replay.specs.Promises.{PlayIs}
+use Rattle.replay.specs.Replaying.{replayFrom}
+use Rattle.replay.proofs.Playing.{count-length, Goes, goes-start, goes-through, goes-stopped, goes-lifted, tried-shaped, can-count}
 use Rattle.replay.proofs.play.Statement.{statement}
 use Rattle.replay.proofs.play.Tie as tie
 
 abbrev Inv-loop : tie.InvT-loop
-Inv-loop m h heights₀ slots₀ list count₀ heights slots count = (count ≤ length list) × Shaped (held m h heights slots) × Goes (held m h heights₀ slots₀) list (held m h heights slots) count
+Inv-loop m h heights₀ slots₀ carries₀ list count₀ heights slots carries count =
+    (length carries ≡ length carries₀) × Shaped (held m h heights slots) × Goes (held m h heights₀ slots₀) list (held m h heights slots) carries count
 
 abbrev μ-loop : tie.MeasureT-loop
-μ-loop m h heights₀ slots₀ list count₀ heights slots count = length list - count
+μ-loop m h heights₀ slots₀ carries₀ list count₀ heights slots carries count = length list - count
 
 loop-holds : tie.Need-loop-holds Inv-loop μ-loop
-loop-holds c = (omega arith, c .before .pre, goes-start _ _)
+loop-holds c = (refl, accepted-shaped _ (c .before .before .pre .0), goes-start _ _ _ (c .before .before .pre .1))
 
-judge-at-requires : tie.Need-judge-at-requires Inv-loop μ-loop
-judge-at-requires c κs = (omega (arith, c .before .before .left-of .ensures, c .before .before .before .shared-slice-known2 .given (c .before .before .before .before .before .loop .count)), omega (arith, c .before .entered-of .ensures))
+try-lift-requires : tie.Need-try-lift-requires Inv-loop μ-loop
+try-lift-requires c κs = c .before .before .before .before .before .before .loop .inv .1
 
 returns : tie.Need-returns Inv-loop μ-loop
-unfolding liftRefusal
 returns c =
-    let a = c .before .before .before .before .before .before .before .before .before .before .before .args in
-    let t : Store = held (a .m) (a .h) (c .before .before .before .before .before .before .before .before .before .loop .heights) (c .before .before .before .before .before .before .before .before .before .loop .slots) in
-    let g = c .before .r .given in
-    goes-stopped _ t _ _ (c .before .before .before .before .before .before .before .before .before .loop .inv .2) (g .0 .0) (c .before .before .before .before .before .before .before .before .loop-test .taken)
-    (sym (ap judgedNumber (g .1)) ∙ c .before .before .before .judge-at .ensures .has ∙ same-lift t _ (c .before .before .before .before .before .before .left-of .ensures) (c .before .before .before .before .before .entered-of .ensures))
+    let w = c .before .before .before in
+    let g = c .before .judged .given in
+    goes-stopped _ _ _ _ _ (w .before .before .before .before .before .before .before .loop .inv .2) (w .before .before .before .before .before .before .loop-test .taken) (w .before .before .before .before .left-of .ensures) (w .before .before .before .entered-of .ensures) (w .try-lift .ensures) (g .0 .0) (sym (ap judgedNumber (g .1)))
 
-carry-requires : tie.Need-carry-requires Inv-loop μ-loop
-unfolding liftRefusal
-carry-requires c κs =
-    let a = c .before .before .before .before .before .before .before .before .before .before .before .before .args in
-    let t : Store = held (a .m) (a .h) (c .before .before .before .before .before .before .before .before .before .before .loop .heights) (c .before .before .before .before .before .before .before .before .before .before .loop .slots) in
-    can-carry t _ _ (c .before .before .before .before .before .before .before .before .before .before .loop .inv .1) (none-allowed t _ _ (sym (c .before .before .before .before .judge-at .ensures .has) ∙ ap judgedNumber (c .before .before .enum-told .given .1)))
+count-carry-requires : tie.Need-count-carry-requires Inv-loop μ-loop
+count-carry-requires c κs =
+    let w = c .before .before .before .before .before .before in
+    let i = w .before .before .before .before .before .before .before .loop .inv in
+    can-count _ _ _ _ _ (i .2) (w .before .before .before .before .before .before .loop-test .taken) (w .before .before .before .before .left-of .ensures) (w .before .before .before .entered-of .ensures) (w .try-lift .ensures) (w .before .before .before .before .before .before .before .before .before .before .pre .0) (i .1) (ap judgedNumber (c .before .before .before .before .enum-told .given .1)) (w .before .before .before .before .before .before .before .before .before .before .good .1 .1 .1 .1 .1 .0 .0)
+
+add-count : tie.Need-add-count Inv-loop μ-loop
+add-count c = omega (arith, c .before .before .before .before .before .before .before .before .before .before .before .before .before .before .before .loop-test .taken, c .before .before .before .before .before .before .before .before .before .before .before .before .before .before .before .before .before .before .before .good .1 .1 .1 .1 .1 .0 .0)
 
 loop-again : tie.Need-loop-again Inv-loop μ-loop
-unfolding liftRefusal
 loop-again c =
-    let a = c .before .before .before .before .before .before .before .before .before .before .before .before .before .args in
-    let t : Store = held (a .m) (a .h) (c .before .before .before .before .before .before .before .before .before .before .before .loop .heights) (c .before .before .before .before .before .before .before .before .before .before .before .loop .slots) in
-    let z : liftRefusal t (c .before .before .before .before .before .before .before .before .left-of .result .0) (c .before .before .before .before .before .before .before .entered-of .result .0) ≡ 0 = sym (c .before .before .before .before .before .judge-at .ensures .has) ∙ ap judgedNumber (c .before .before .before .enum-told .given .1) in
-    let u = carried-store t _ _ (c .carry .ensures .heights-are) (c .carry .ensures .slots-are) in (
-      omega (arith, c .before .before .before .before .before .before .before .before .before .before .loop-test .taken),
-      subst Shaped (sym u) (lifted-shaped t _ _ (c .before .before .before .before .before .before .before .before .before .before .before .loop .inv .1) (none-allowed t _ _ z)),
-      goes-lifted _ t _ _ (c .before .before .before .before .before .before .before .before .before .before .before .loop .inv .2) _ _ _ (c .before .before .before .before .before .before .before .before .left-of .ensures) (c .before .before .before .before .before .before .before .entered-of .ensures) (c .before .before .before .before .before .before .before .before .before .before .loop-test .taken) z u,
+    let w = c .before .before .before .before .before .before .before .before .before in
+    let i = w .before .before .before .before .before .before .before .loop .inv in
+    let t = w .try-lift .ensures in
+    let d = ap judgedNumber (c .before .before .before .before .before .before .before .enum-told .given .1) in (
+      count-length (c .before .before .count-carry .ensures) ∙ i .0,
+      tried-shaped _ _ _ _ _ (i .2) (w .before .before .before .before .before .before .loop-test .taken) (w .before .before .before .before .left-of .ensures) (w .before .before .before .entered-of .ensures) t (w .before .before .before .before .before .before .before .before .before .before .pre .0) (i .1) d,
+      goes-lifted _ _ _ _ _ (i .2) (w .before .before .before .before .before .before .loop-test .taken) (w .before .before .before .before .left-of .ensures) (w .before .before .before .entered-of .ensures) t (w .before .before .before .before .before .before .before .before .before .before .pre .0) (i .1) d (c .before .before .count-carry .ensures),
     )
 
 returns-2 : tie.Need-returns-2 Inv-loop μ-loop
-returns-2 c = goes-through _ _ _ _ (c .before .loop .inv .2) (c .loop-test .left)
+returns-2 c = goes-through _ _ _ _ _ (c .before .loop .inv .2) (c .loop-test .left)
 
 pub play-spec : {M : Type 1} → statement M
 play-spec =
     tie.close
-    (tie.spec Inv-loop μ-loop loop-holds (λ c. search needs) (λ c κs. search needs) (λ c κs. search needs) judge-at-requires
-    (λ c. search needs) returns (λ c. search needs) carry-requires (λ c. search needs) (λ c. search needs) loop-again returns-2)
+    (tie.spec Inv-loop μ-loop loop-holds (λ c. search needs) (λ c κs. search needs) (λ c κs. search needs) try-lift-requires
+    (λ c. search needs) (λ c. search needs) returns (λ c. search needs) count-carry-requires add-count (λ c. search needs) loop-again (λ c. search needs) returns-2)

@@ -1,5 +1,6 @@
 -- `call_replay` meets its contract: the image's fault, 10, or the replay's answer and the image of the store reached.
 use borrow.Author.Needs.{needs}
+use mathlib.Core.Path.{refl}
 use Prim.Native.Nat.{ℕ, _<_}
 use native.Mathlib.Omega.{arith}
 use lib.ListN.{getD}
@@ -28,16 +29,21 @@ returns-2 c =
     let w = r .before .before in
     replay-little-space (bytes (w .before)) (start (w .before)) (r .refused2 .ensures) (w .if2 .taken)
 
+play-requires : tie.Need-play-requires
+play-requires c κs =
+    let e = c .before .before .before .before .before .before .before in
+    (e .before .read-one .ensures .accepted (e .if1 .left), λ i. refl)
+
 returns-3 : tie.Need-returns-3
 returns-3 c =
     let w = c .before .before .before .before in
     let r = w .before .before .before in
-    let e = r .before .before in
-    replay-answered (bytes (e .before)) (start (e .before)) (e .if2 .left) (r .replay .ensures) (w .write .ensures) (c .before .end-number .ensures) (c .answer .ensures)
+    let e = r .before .before .before .before .before .before .before in
+    replay-answered (bytes (e .before)) (start (e .before)) (e .if2 .left) (r .play .ensures) (w .write .ensures) (c .before .end-number .ensures) (c .answer .ensures)
 
 pub call-replay-spec : {M : Type 1} → statement M
 call-replay-spec =
     tie.close
     (tie.spec (λ c κs. search needs) (λ c κs. search needs) (λ c. search needs) returns (λ c κs. search needs)
-    (λ c. search needs) returns-2 (λ c κs. search needs) (λ c κs. search needs) (λ c κs. search needs) (λ c κs. search needs)
+    (λ c. search needs) returns-2 (λ c. search needs) play-requires (λ c κs. search needs) (λ c κs. search needs) (λ c κs. search needs)
     (λ c. search needs) returns-3)

@@ -1,19 +1,23 @@
 -- "No cassette stands twice in a store" (document 01): an accepted store shows a number in one place at most.
 use borrow.Author.Tests.{eq-eqb}
-use mathlib.Core.Path.{_≡_, sym, ap}
-use Prim.Native.Nat.{ℕ, zero, suc, _≤_, _<_}
+use mathlib.Core.Path.{_≡_, refl, sym, ap, _∙_}
+use Prim.Native.Nat.{ℕ, zero, suc, _/_, _%_, _≤_, _<_}
 use native.Mathlib.Decide.{ℕ-discrete, decLt}
+use native.Mathlib.Nat.{div-add-mod}
 use native.Mathlib.Omega.{arith}
+use lib.ListN.{getD}
 use Rattle.stacks.specs.Count.{one, count, sum, occurrences}
 use Rattle.stacks.proofs.Sums.{term-le-sum, sum-le-outside-two}
 use Rattle.marks.proofs.Takes.{none-repeats}
+use Rattle.lifts.specs.Lifting.{slotCount, shown}
 use Rattle.rows.specs.Rows.{rowsDown}
 use Rattle.store.specs.declared.Store.{Store}
 use Rattle.store.specs.Slots.{height, slot, downward, stack}
 use Rattle.store.specs.Accept.{Accepted}
-use Rattle.store.proofs.Acceptance.{accepted-sound}
+use Rattle.store.proofs.Acceptance.{accepted-shaped, accepted-sound}
+use Rattle.store.proofs.Views.{holds-below}
 use Rattle.reach.proofs.Agree.{occurrences-agree}
 use Rattle.reach.proofs.Lasting.{row-counted}
 
 module _ (s : Store) (p : Accepted s) (c : ℕ) where
   -- how often c stands in the rows of a shaft
@@ -68,3 +72,23 @@ module _ (s : Store) (p : Accepted s) (c : ℕ) where
   one-place x j y k h g i l e f =
       let u = one-shaft x j y k h g i l e f in
       (u, one-row x j k h i (rw u l) e (rw u f))
+
+  -- by its place in the slots
+  at-place : (i : ℕ) → slot s (i / 16) (suc (i % 16)) ≡ getD (s .slots) i 0
+  unfolding shown
+  at-place i = rw div-add-mod refl
+
+  -- a slot that isn't empty is one of a shaft, up to its height
+  place-held : (i : ℕ) → i < slotCount → (getD (s .slots) i 0 ≡ 0 → ⊥) → (i / 16 < s .m) × (i % 16 < height s (i / 16))
+  place-held i h n =
+      elim (decLt (i % 16) (height s (i / 16))) [
+        | yes u ↦ (holds-below s (i / 16) (accepted-shaped s p) (omega arith), u)
+        | no u ↦ absurd (n (sym (at-place i) ∙ accepted-shaped s p .none-above (i / 16) (i % 16) (omega arith) (omega arith) (omega arith)))
+      ]
+
+  pub one-slot : (c ≡ 0 → ⊥) → (i j : ℕ) → i < slotCount → j < slotCount → getD (s .slots) i 0 ≡ c → getD (s .slots) j 0 ≡ c → i ≡ j
+  one-slot n i j h l e f =
+      let u = place-held i h (λ z. n (sym e ∙ z)) in
+      let v = place-held j l (λ z. n (sym f ∙ z)) in
+      let r = one-place (i / 16) (i % 16) (j / 16) (j % 16) (u .0) (v .0) (u .1) (v .1) (at-place i ∙ e) (at-place j ∙ f) in
+      omega (arith, r .0, r .1)

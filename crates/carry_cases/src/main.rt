@@ -1,0 +1,104 @@
+// Replays the list in the file list on the store in store.img, both in the current directory, and prints how often each cassette of the store
+// reached was carried, and how often all of them together. Held to the file stdout; tests/outside compares it with a replay of its own.
+use libc::STDOUT_FILENO;
+use numbers::end_number;
+use numbers::read_number;
+use reading::read;
+use replay::Replayed;
+use replay::replay;
+use std::num::wrapping_add_u64;
+use store::Store;
+ghost use Rattle.io.specs.Counts.{Counts};
+
+fn say(what: &[u8], number: u64) {
+    io::write_all(STDOUT_FILENO, what);
+    io::print_decimal(STDOUT_FILENO, number);
+}
+
+// Fills the buffer from a file, and tells how many bytes came: none where it can't be read.
+fn fill(path: &[u8], buffer: &mut [u8]) -> usize
+    ensures { λ r. ⌜ Counts r (now (buffer .exit)) ⌝ }
+{
+    let file = os::open_read(path);
+    if file < 0 {
+        return 0;
+    }
+    let n = io::read_full(file, buffer);
+    libc::close(file);
+    n
+}
+
+// A cassette and how often it was carried; nothing of an empty slot.
+fn say_slot(c: u8, times: usize) {
+    if c != 0 {
+        say(b"", c as u64);
+        say(b" ", times as u64);
+        io::write_all(STDOUT_FILENO, b"\n");
+    }
+}
+
+// The cassettes of a store, shaft by shaft from row 1 upward, with the counts beside their slots.
+fn say_slots(slots: &[u8], carries: &[usize]) {
+    let mut i: usize = 0;
+    while i < slots.len() {
+        if i < carries.len() {
+            say_slot(slots[i], carries[i]);
+        }
+        i += 1;
+    }
+}
+
+// How often a cassette was carried, by its number; an empty slot holds none.
+fn times_of(replayed: Replayed, c: u8) -> u64 {
+    if c == 0 {
+        return 0;
+    }
+    replayed.carries_of(c) as u64
+}
+
+// How often the cassettes of the slots were carried, all together.
+fn all_carries(replayed: Replayed, slots: &[u8]) -> u64 {
+    let mut sum: u64 = 0;
+    let mut i: usize = 0;
+    while i < slots.len() {
+        sum = wrapping_add_u64(sum, times_of(replayed, slots[i]));
+        i += 1;
+    }
+    sum
+}
+
+// The cassettes of the store reached with their counts, and how often they were carried all together.
+fn say_counts(replayed: Replayed) {
+    let reached = replayed.store;
+    let slots = reached.slots;
+    let carries = replayed.carries;
+    say_slots(&slots, &carries);
+    say(b"sum ", all_carries(replayed, &slots));
+    io::write_all(STDOUT_FILENO, b"\n");
+}
+
+fn say_replay(s: Store, list: &[u8]) {
+    let replayed = replay(s, list);
+    let end = replayed.end;
+    say(b"number ", end_number(end) as u64);
+    say(b"\nlifts ", replayed.count as u64);
+    io::write_all(STDOUT_FILENO, b"\n");
+    say_counts(replayed);
+}
+
+fn main() {
+    let mut image = [0u8; 300];
+    let n = fill(b"store.img", &mut image);
+    let got = read(&image[..n]);
+    let answer = got.answer;
+    let number = read_number(answer);
+    if number != 0 {
+        say(b"number ", number as u64);
+        io::write_all(STDOUT_FILENO, b"\n");
+        return;
+    }
+    let mut list = [0u8; 20000];
+    let k = fill(b"list", &mut list);
+    let s = got.store;
+    say_replay(s, &list[..k]);
+}
