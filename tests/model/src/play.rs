@@ -1,4 +1,4 @@
-//! Single lifts and the replay of a list (document 01, "The store" and "The list").
+//! Single lifts and the replay of a list (document 01, "The store" and "The list"), and what they carried (document 02, 2/13).
 
 use crate::store::Store;
 
@@ -26,42 +26,56 @@ pub fn refusal(store: &Store, lift: u8) -> Option<u8> {
     }
 }
 
-/// Does a lift and gives the cassette carried, or gives the lift's number and changes nothing.
-pub fn lift(store: &mut Store, lift: u8) -> Result<u8, u8> {
+/// What a lift carried, and the row it landed in. Rows count from 1.
+#[derive(Clone, Copy, Debug, PartialEq, Eq)]
+pub struct Carried {
+    pub cassette: u8,
+    pub row: usize,
+}
+
+/// Does a lift and tells what it carried, or gives the lift's number and changes nothing.
+pub fn lift(store: &mut Store, lift: u8) -> Result<Carried, u8> {
     if let Some(number) = refusal(store, lift) {
         return Err(number);
     }
     let (left, entered) = shafts_of(lift);
     let cassette = store.shafts[left].pop().expect("a legal lift");
     store.shafts[entered].push(cassette);
-    Ok(cassette)
+    let row = store.shafts[entered].len();
+    Ok(Carried { cassette, row })
 }
 
-/// How a replay ended: the store reached, the lifts done, and 0 or the number it stopped with.
+/// How a replay ended: the store reached, the lifts done, 0 or the number it stopped with, and how often each cassette
+/// was carried, by its number.
 #[derive(Debug, PartialEq, Eq)]
 pub struct Replayed {
     pub store: Store,
     pub count: usize,
     pub number: u8,
+    pub carries: [usize; 256],
 }
 
 /// Does the lifts of a list until one is refused.
 pub fn replay(start: &Store, list: &[u8]) -> Replayed {
-    let mut store = start.clone();
-    for (count, &byte) in list.iter().enumerate() {
-        if let Err(number) = lift(&mut store, byte) {
-            return Replayed {
-                store,
-                count,
-                number,
-            };
+    let mut end = Replayed {
+        store: start.clone(),
+        count: 0,
+        number: 0,
+        carries: [0; 256],
+    };
+    for &byte in list {
+        match lift(&mut end.store, byte) {
+            Ok(carried) => {
+                end.count += 1;
+                end.carries[usize::from(carried.cassette)] += 1;
+            }
+            Err(number) => {
+                end.number = number;
+                break;
+            }
         }
     }
-    Replayed {
-        store,
-        count: list.len(),
-        number: 0,
-    }
+    end
 }
 
 /// The list is legal from the start and ends at the goal.
@@ -82,10 +96,16 @@ pub fn legal_lifts(store: &Store) -> Vec<u8> {
 #[cfg(test)]
 mod tests {
     use super::*;
-    use crate::text;
+    use crate::{Random, text};
 
     fn store(text: &str) -> Store {
         text::read(text).unwrap()
+    }
+
+    /// The cassettes that were carried and how often, rising by number.
+    fn carries(end: &Replayed) -> Vec<(usize, usize)> {
+        let all = end.carries.iter().copied().enumerate();
+        all.filter(|&(_, times)| times > 0).collect()
     }
 
     #[test]
@@ -106,6 +126,53 @@ mod tests {
         let mut s = store("2x1: [1] [2]");
         assert_eq!(lift(&mut s, 0x01), Err(14));
         assert_eq!(s, store("2x1: [1] [2]"));
+    }
+
+    #[test]
+    fn what_a_lift_carried() {
+        let mut s = store("3x3: [1 2] [] [3]");
+        let carried = |cassette, row| Ok(Carried { cassette, row });
+        assert_eq!(lift(&mut s, 0x01), carried(2, 1));
+        assert_eq!(lift(&mut s, 0x21), carried(3, 2));
+        assert_eq!(lift(&mut s, 0x01), carried(1, 3));
+        assert_eq!(s, store("3x3: [] [2 3 1] []"));
+    }
+
+    #[test]
+    fn carries_of_a_list_run_through() {
+        let end = replay(&store("3x1: [1] [2] []"), &[0x02, 0x10, 0x21]);
+        assert_eq!((end.count, end.number), (3, 0));
+        assert_eq!(carries(&end), [(1, 2), (2, 1)]);
+        let end = replay(&store("3x1: [1] [2] []"), &[]);
+        assert_eq!(carries(&end), []);
+    }
+
+    #[test]
+    fn a_stopped_lift_counts_nothing() {
+        let start = store("3x2: [1 2] [] [255]");
+        for (stop, number) in [(0x03, 11), (0x00, 11), (0x20, 13), (0x21, 13), (0x01, 14)] {
+            let end = replay(&start, &[0x01, 0x21, stop, 0x10, 0x10]);
+            assert_eq!((end.count, end.number), (2, number));
+            assert_eq!(carries(&end), [(2, 1), (255, 1)]);
+        }
+    }
+
+    #[test]
+    fn carries_add_up_to_the_lifts() {
+        let mut random = Random::new(2);
+        let mut lifts = 0;
+        for _ in 0..1000 {
+            let start = random.store(4, 3, 6);
+            let mut any_lift = || {
+                let left = random.below(4);
+                lift_byte(left, (left + random.from_to(1, 3)) % 4)
+            };
+            let list: Vec<u8> = (0..20).map(|_| any_lift()).collect();
+            let end = replay(&start, &list);
+            assert_eq!(end.carries.iter().sum::<usize>(), end.count);
+            lifts += end.count;
+        }
+        assert!(lifts > 1000, "{lifts} lifts were done");
     }
 
     #[test]

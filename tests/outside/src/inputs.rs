@@ -8,9 +8,14 @@ use halyard_model::{Random, Store, play};
 /// The most list space a plan can ask for.
 pub const MOST_LIST_SPACE: usize = 18_360;
 
-/// A store of any shape, or of the largest, with 0, 1, 2, h - 1, h, h + 1 or any number of empty slots.
+/// A store of any shape, or of the largest.
 pub fn store(random: &mut Random) -> Store {
     let (m, h) = shape(random);
+    store_of_shape(random, m, h)
+}
+
+/// A store of this shape with 0, 1, 2, h - 1, h, h + 1 or any number of empty slots.
+pub fn store_of_shape(random: &mut Random, m: usize, h: usize) -> Store {
     let n = cassette_count(random, m, h);
     random.store(m, h, n)
 }

@@ -1,6 +1,7 @@
 //! What the tool does for each of its commands.
 
 use crate::{depth, draw};
+use halyard_model::play::{Carried, Replayed};
 use halyard_model::{Store, image, play, text};
 use std::fs;
 use std::io::Read;
@@ -11,14 +12,15 @@ halyard: stores as text and as images, and lists played for a person to see
   halyard image TEXT [FILE]        write the image of a store to FILE, or show its bytes in hexadecimal
   halyard text STORE               show a store as text
   halyard show STORE               draw a store
-  halyard play STORE LIST          draw a store, and again after each lift of a list
-  halyard play --end STORE LIST    draw a store only as the list leaves it
+  halyard play STORE LIST          draw a store, and again after each lift of a list, and count the carries
+  halyard play --end STORE LIST    draw a store only as the list leaves it, and count the carries
   halyard leads START GOAL LIST    say whether a list leads from start to goal
   halyard depth STORE CASSETTE…    draw a store, and say what is to be lifted away from each cassette
 
 TEXT is such as '3x2: [1 2] [] [3]': shafts, depth, the cassettes of each shaft bottom first.
 STORE, START and GOAL are an image file or TEXT. LIST is a file that has what the program 'plan'
 printed, or '-' for standard input; with --bytes it has a byte for each lift, as the C calls write it.
+The carries are how often each cassette of the store was carried, up to a lift that is refused.
 
 This tool is a convenience outside what is proved. It shares no code with the proved library, and
 nothing proves what it says. It ends with status 1 where something is wrong or refused.
@@ -57,7 +59,7 @@ pub fn run(words: &[&str]) -> Result<Said, String> {
         ["show", store] => Ok(draw::store(&read_store(store)?, &[]).into()),
         ["play", store, list] => {
             let (store, list) = (read_store(store)?, read_list(list, bytes)?);
-            Ok(played(store, &list, options.contains(&"--end")))
+            Ok(played(&store, &list, options.contains(&"--end")))
         }
         ["leads", start, goal, list] => {
             let (start, goal) = (read_store(start)?, read_store(goal)?);
@@ -109,56 +111,70 @@ fn read_list(file: &str, bytes: bool) -> Result<Vec<u8>, String> {
     text::read_list(&String::from_utf8_lossy(&content))
 }
 
-/// The store drawn before and after each lift, or only at the end, up to a lift that is refused.
-fn played(mut store: Store, list: &[u8], end_only: bool) -> Said {
-    let mut shown = vec![format!("start\n{}", draw::store(&store, &[]))];
-    let mut wrong = None;
-    for (done, &lift) in list.iter().enumerate() {
-        match play::lift(&mut store, lift) {
-            Ok(cassette) => shown.push(draw_lift(&store, list, done, cassette)),
-            Err(number) => {
-                wrong = Some(stopped(&store, list, done, number));
-                break;
-            }
-        }
-    }
-    if end_only {
-        let done = shown.len() - 1;
-        shown = vec![format!("lifts done: {done}\n{}", draw::store(&store, &[]))];
-    }
+/// The store drawn before and after each lift, or only at the end, up to a lift that is refused, and then the carries.
+fn played(start: &Store, list: &[u8], end_only: bool) -> Said {
+    let end = play::replay(start, list);
+    let mut shown = if end_only {
+        let drawn = draw::store(&end.store, &[]);
+        vec![format!("lifts done: {}\n{drawn}", end.count)]
+    } else {
+        each_lift(start, list, end.count)
+    };
+    shown.push(carries(&end));
     Said {
         text: shown.join("\n"),
-        wrong,
+        wrong: (end.number != 0).then(|| stopped(&end, list)),
     }
 }
 
+/// The store drawn before and after each of the lifts that are done.
+fn each_lift(start: &Store, list: &[u8], count: usize) -> Vec<String> {
+    let mut store = start.clone();
+    let mut shown = vec![format!("start\n{}", draw::store(&store, &[]))];
+    for done in 0..count {
+        let carried = play::lift(&mut store, list[done]).expect("a lift that is done");
+        shown.push(draw_lift(&store, list, done, carried));
+    }
+    shown
+}
+
 /// A store after a lift, with the cassette carried.
-fn draw_lift(store: &Store, list: &[u8], done: usize, cassette: u8) -> String {
+fn draw_lift(store: &Store, list: &[u8], done: usize, carried: Carried) -> String {
     let (left, entered) = play::shafts_of(list[done]);
+    let Carried { cassette, row } = carried;
     format!(
-        "lift {} of {}: {cassette} from shaft {left} to shaft {entered}\n{}",
+        "lift {} of {}: {cassette} from shaft {left} to shaft {entered}, row {row}\n{}",
         done + 1,
         list.len(),
         draw::store(store, &[cassette])
     )
 }
 
+/// How often each cassette of the store was carried, a line for each, rising by number.
+fn carries(end: &Replayed) -> String {
+    let times = |cassette: u8| end.carries[usize::from(cassette)];
+    let line = |cassette| format!("{cassette:>5}: {}\n", times(cassette));
+    let lines: String = end.store.sorted().into_iter().map(line).collect();
+    format!("times carried\n{lines}")
+}
+
 /// What to say of a replay that stopped.
-fn stopped(store: &Store, list: &[u8], done: usize, number: u8) -> String {
+fn stopped(end: &Replayed, list: &[u8]) -> String {
     format!(
-        "lift {} of {}, {}, is refused {number}, {}, in {}",
-        done + 1,
+        "lift {} of {}, {}, is refused {}, {}, in {}",
+        end.count + 1,
         list.len(),
-        text::write_lift(list[done]),
-        meaning(number),
-        text::write(store)
+        text::write_lift(list[end.count]),
+        end.number,
+        meaning(end.number),
+        text::write(&end.store)
     )
 }
 
 fn leads(start: &Store, goal: &Store, list: &[u8]) -> Result<String, String> {
     let end = play::replay(start, list);
     if end.number != 0 {
-        return Err(stopped(&end.store, list, end.count, end.number));
+        return Err(stopped(&end, list));
     }
     if end.store != *goal {
         let (reached, goal) = (text::write(&end.store), text::write(goal));
@@ -238,20 +254,33 @@ mod tests {
         let list = Scratch::holding("list", b"lifts 2\n0>1\n2>0\n");
         let shown = prints(&["play", EXAMPLE, &list.0]);
         let parts: Vec<&str> = shown.split("\n\n").collect();
-        assert_eq!(parts.len(), 3);
-        assert!(parts[1].starts_with("lift 1 of 2: 2 from shaft 0 to shaft 1\n"));
+        assert_eq!(parts.len(), 4);
+        assert!(parts[1].starts_with("lift 1 of 2: 2 from shaft 0 to shaft 1, row 1\n"));
         assert!(parts[1].contains("row  1 |    1 |   *2 |    3 |"));
-        assert!(parts[2].starts_with("lift 2 of 2: 3 from shaft 2 to shaft 0\n"));
+        assert!(parts[2].starts_with("lift 2 of 2: 3 from shaft 2 to shaft 0, row 2\n"));
         assert!(parts[2].contains("row  2 |   *3 |      |      |"));
+        assert_eq!(parts[3], "times carried\n    1: 0\n    2: 1\n    3: 1\n");
     }
 
     #[test]
     fn only_the_end() {
-        let list = Scratch::holding("end", &[0x01, 0x20]);
+        let list = Scratch::holding("end", &[0x01, 0x10, 0x01, 0x20]);
         let shown = prints(&["play", "--end", "--bytes", EXAMPLE, &list.0]);
         let end = text::read("3x2: [1 3] [2] []").unwrap();
         let drawn = draw::store(&end, &[]);
-        assert_eq!(shown, format!("lifts done: 2\n{drawn}"));
+        let carries = "times carried\n    1: 0\n    2: 3\n    3: 1\n";
+        assert_eq!(shown, format!("lifts done: 4\n{drawn}\n{carries}"));
+    }
+
+    #[test]
+    fn carries_rise_by_number() {
+        let list = Scratch::holding("rise", b"lifts 2\n0>2\n1>2\n");
+        let store = "3x2: [255] [10] []";
+        let shown = prints(&["play", "--end", store, &list.0]);
+        assert!(shown.ends_with("\n\ntimes carried\n   10: 1\n  255: 1\n"));
+        let none = Scratch::holding("none", b"lifts 0\n");
+        let shown = prints(&["play", store, &none.0]);
+        assert!(shown.ends_with("\n\ntimes carried\n   10: 0\n  255: 0\n"));
     }
 
     #[test]
@@ -259,11 +288,15 @@ mod tests {
         let list = Scratch::holding("stops", b"lifts 3\n0>1\n1>1\n0>1\n");
         let wrong = "lift 2 of 3, 1>1, is refused 11, a shaft that is not there, \
                      or one shaft twice, in 3x2: [1] [2] [3]";
+        let carries = "\n\ntimes carried\n    1: 0\n    2: 1\n    3: 0\n";
         let said = run(&["play", EXAMPLE, &list.0]).unwrap();
         assert_eq!(said.wrong.as_deref(), Some(wrong));
         assert_eq!(said.text.matches("shaft  ").count(), 2);
+        assert!(said.text.ends_with(carries), "{}", said.text);
         let said = run(&["play", "--end", EXAMPLE, &list.0]).unwrap();
+        assert_eq!(said.wrong.as_deref(), Some(wrong));
         assert!(said.text.starts_with("lifts done: 1\n"));
+        assert!(said.text.ends_with(carries), "{}", said.text);
         let leads = run(&["leads", EXAMPLE, EXAMPLE, &list.0]);
         assert_eq!(leads, Err(wrong.to_string()));
     }

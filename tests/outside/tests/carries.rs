@@ -1,0 +1,195 @@
+//! How often each cassette was carried by a replay (document 02, 2/13). The C calls do not show it, so the program carry_cases prints it: it replays a list
+//! with the proved library, and what it prints is compared with a replay of the model.
+
+use halyard_model::play::{self, Replayed};
+use halyard_model::store::{MOST_DEPTH, MOST_SHAFTS};
+use halyard_model::{Random, image, text};
+use halyard_outside::inputs;
+use std::fs;
+use std::path::PathBuf;
+use std::process::Command;
+use std::sync::atomic::{AtomicUsize, Ordering};
+
+/// The longest list that the program reads.
+const MOST_LIFTS: usize = 20_000;
+
+/// The program, by its absolute path, since it runs in folders of its own.
+fn program() -> PathBuf {
+    let path = std::env::var_os("HALYARD_CARRY_CASES").map(PathBuf::from);
+    let path = path.filter(|path| path.is_absolute() && path.is_file());
+    path.expect(
+        "HALYARD_CARRY_CASES must be the absolute path of the program carry_cases: \
+         'rt check carry_cases' makes it as target/bin/carry_cases",
+    )
+}
+
+/// A folder with the program's two files, removed when it has run.
+struct Folder(PathBuf);
+
+impl Folder {
+    fn holding(image: &[u8], list: &[u8]) -> Folder {
+        static FOLDERS: AtomicUsize = AtomicUsize::new(0);
+        let count = FOLDERS.fetch_add(1, Ordering::Relaxed);
+        let name = format!("halyard-carries-{}-{count}", std::process::id());
+        let path = std::env::temp_dir().join(name);
+        fs::create_dir(&path).unwrap();
+        fs::write(path.join("store.img"), image).unwrap();
+        fs::write(path.join("list"), list).unwrap();
+        Folder(path)
+    }
+}
+
+impl Drop for Folder {
+    fn drop(&mut self) {
+        fs::remove_dir_all(&self.0).unwrap();
+    }
+}
+
+/// What a command prints in a folder with this image and this list.
+fn printed_by(mut command: Command, image: &[u8], list: &[u8]) -> String {
+    let folder = Folder::holding(image, list);
+    let output = command.current_dir(&folder.0).output().unwrap();
+    let about = || format!("image {image:02x?}, list {list:02x?}");
+    assert!(output.status.success(), "{}: {}", output.status, about());
+    assert!(output.stderr.is_empty(), "{output:?}: {}", about());
+    String::from_utf8(output.stdout).expect("decimal numbers")
+}
+
+fn printed(image: &[u8], list: &[u8]) -> String {
+    printed_by(Command::new(program()), image, list)
+}
+
+/// What is printed of a replay that ended like this.
+fn expected(end: &Replayed) -> String {
+    let times = |cassette: u8| end.carries[usize::from(cassette)];
+    let line = |cassette| format!("{cassette} {}\n", times(cassette));
+    let lines: String = end.store.cassettes().into_iter().map(line).collect();
+    let (number, count) = (end.number, end.count);
+    format!("number {number}\nlifts {count}\n{lines}sum {count}\n")
+}
+
+/// Compares a replay, and gives its end; of a refused image only the number is printed.
+fn compare(image: &[u8], list: &[u8]) -> Result<Replayed, u8> {
+    let end = image::read(image).map(|store| play::replay(&store, list));
+    let wanted = match &end {
+        Ok(end) => expected(end),
+        Err(number) => format!("number {number}\n"),
+    };
+    let about = || format!("image {image:02x?}, list {list:02x?}");
+    assert_eq!(printed(image, list), wanted, "{}", about());
+    end
+}
+
+fn bytes(store: &str) -> Vec<u8> {
+    image::write(&text::read(store).unwrap())
+}
+
+/// "m 3, h 1, [1] [2] [] to [2] [1] []: yes; bytes 02 10 21 (hexadecimal) do it."
+#[test]
+fn three_lifts_of_document_01() {
+    let store = bytes("3x1: [1] [2] []");
+    let wanted = "number 0\nlifts 3\n2 1\n1 2\nsum 3\n";
+    assert_eq!(printed(&store, &[0x02, 0x10, 0x21]), wanted);
+    let nothing = "number 0\nlifts 0\n1 0\n2 0\nsum 0\n";
+    assert_eq!(printed(&store, &[]), nothing);
+    assert_eq!(
+        printed(&bytes("3x3: [] [] []"), &[]),
+        "number 0\nlifts 0\nsum 0\n"
+    );
+}
+
+/// A lift that is refused counts nothing, nor does what comes after it.
+#[test]
+fn lists_that_stop() {
+    let store = bytes("3x2: [1 2] [] [3]");
+    let stopped = |list: &[u8]| printed(&store, list);
+    let no_lift = "number 11\nlifts 2\n1 0\n3 1\n2 1\nsum 2\n";
+    assert_eq!(stopped(&[0x01, 0x20, 0x11, 0x12]), no_lift);
+    assert_eq!(stopped(&[0x01, 0x20, 0x13, 0x12]), no_lift);
+    let empty = "number 13\nlifts 4\n1 0\n3 1\n2 3\nsum 4\n";
+    assert_eq!(stopped(&[0x01, 0x10, 0x01, 0x20, 0x21, 0x12]), empty);
+    let full = "number 14\nlifts 2\n1 0\n2 2\n3 0\nsum 2\n";
+    assert_eq!(stopped(&[0x01, 0x10, 0x20, 0x21]), full);
+    let at_once = "number 14\nlifts 0\n1 0\n2 0\n3 0\nsum 0\n";
+    assert_eq!(stopped(&[0x20, 0x01]), at_once);
+}
+
+/// How many ends are like this.
+fn met(ends: &[Replayed], like: impl Fn(&Replayed) -> bool) -> usize {
+    ends.iter().filter(|end| like(end)).count()
+}
+
+/// Stores of every shape, with lists that run through and lists that stop.
+#[test]
+fn every_shape() {
+    let mut random = Random::new(51);
+    let mut ends = Vec::new();
+    for (m, h) in (1..=MOST_SHAFTS).flat_map(|m| (1..=MOST_DEPTH).map(move |h| (m, h))) {
+        for _ in 0..3 {
+            let store = inputs::store_of_shape(&mut random, m, h);
+            let list = inputs::list(&mut random, &store);
+            ends.extend(compare(&image::write(&store), &list));
+        }
+    }
+    for number in [0, 11, 13, 14] {
+        let times = met(&ends, |end| end.number == number && end.count > 0);
+        assert!(times >= 20, "{number} after some lifts: {times} times");
+    }
+    let nothing_done = met(&ends, |end| end.count == 0);
+    assert!(nothing_done >= 20, "no lift done: {nothing_done} times");
+    let carried_again = met(&ends, |end| end.carries.iter().any(|&times| times > 1));
+    assert!(carried_again >= 100, "carried again: {carried_again} times");
+}
+
+/// A refused image has its number printed, and nothing else.
+#[test]
+fn damaged_images() {
+    let mut random = Random::new(52);
+    let mut refused = [0; 256];
+    for _ in 0..200 {
+        let store = inputs::store(&mut random);
+        let list = inputs::list(&mut random, &store);
+        if let Err(number) = compare(&inputs::damaged(&mut random), &list) {
+            refused[usize::from(number)] += 1;
+        }
+    }
+    for number in [1, 2, 3, 4, 5, 7] {
+        assert!(refused[number] >= 3, "{number}: {} times", refused[number]);
+    }
+    assert_eq!(printed(&[], &[0x01]), "number 2\n");
+}
+
+/// The largest stores, each with the longest list that the program reads.
+#[test]
+fn longest_lists() {
+    let mut random = Random::new(53);
+    for n in [1, 240, 255] {
+        let store = random.store(MOST_SHAFTS, MOST_DEPTH, n);
+        let list = inputs::legal_list(&mut random, &store, MOST_LIFTS);
+        let end = compare(&image::write(&store), &list).unwrap();
+        assert_eq!((end.number, end.count), (0, MOST_LIFTS));
+    }
+}
+
+/// One cassette is carried by every lift, so that its count is far past 255.
+#[test]
+fn one_cassette_all_the_time() {
+    let list = [0x01, 0x10].repeat(MOST_LIFTS / 2);
+    let wanted = "number 0\nlifts 20000\n7 20000\nsum 20000\n";
+    assert_eq!(printed(&bytes("2x1: [7] []"), &list), wanted);
+}
+
+/// The largest store and the longest list on a stack of 64 KiB, of which the environment takes nothing.
+#[test]
+fn a_small_stack() {
+    let mut random = Random::new(54);
+    let store = random.store(MOST_SHAFTS, MOST_DEPTH, 250);
+    let list = inputs::legal_list(&mut random, &store, MOST_LIFTS);
+    let mut command = Command::new("sh");
+    command
+        .args(["-c", "ulimit -s 64 && exec \"$0\""])
+        .arg(program());
+    command.env_clear();
+    let wanted = expected(&play::replay(&store, &list));
+    assert_eq!(printed_by(command, &image::write(&store), &list), wanted);
+}
