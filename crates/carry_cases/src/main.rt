@@ -1,6 +1,9 @@
 // Replays the list in the file list on the store in store.img, both in the current directory, and prints how often each cassette of the store
-// reached was carried, and how often all of them together. Held to the file stdout; tests/outside compares it with a replay of its own.
+// reached was carried, how often all of them together, and what the same lifts tell one by one. Held to the file stdout; tests/outside
+// compares it with lifts of its own.
 use libc::STDOUT_FILENO;
+use lift_bytes::entered_of;
+use lift_bytes::left_of;
 use numbers::end_number;
 use numbers::read_number;
 use reading::read;
@@ -77,6 +80,27 @@ fn say_counts(replayed: Replayed) {
     io::write_all(STDOUT_FILENO, b"\n");
 }
 
+// The lifts of a list, each as a single lift, also behind one that is refused: all cassettes told, added up, and all rows.
+fn say_lifts(s: Store, list: &[u8]) {
+    let mut now = s;
+    let mut cassettes: u64 = 0;
+    let mut rows: u64 = 0;
+    let mut i: usize = 0;
+    while i < list.len() {
+        let b = list[i];
+        let lifted = now.lift(left_of(b), entered_of(b));
+        let carried = lifted.carried;
+        let row = carried.row;
+        cassettes = wrapping_add_u64(cassettes, carried.cassette as u64);
+        rows = wrapping_add_u64(rows, row.0 as u64);
+        now = lifted.store;
+        i += 1;
+    }
+    say(b"told ", cassettes);
+    say(b" ", rows);
+    io::write_all(STDOUT_FILENO, b"\n");
+}
+
 fn say_replay(s: Store, list: &[u8]) {
     let replayed = replay(s, list);
     let end = replayed.end;
@@ -101,4 +125,5 @@ fn main() {
     let k = fill(b"list", &mut list);
     let s = got.store;
     say_replay(s, &list[..k]);
+    say_lifts(s, &list[..k]);
 }

@@ -1,9 +1,9 @@
-//! How often each cassette was carried by a replay (document 02, 2/13). The C calls do not show it, so the program carry_cases prints it: it replays a list
-//! with the proved library, and what it prints is compared with a replay of the model.
+//! How often each cassette was carried by a replay, and what single lifts tell (document 02, 2/13). The C calls do not show it, so the program carry_cases
+//! prints it: it replays a list with the proved library and does its lifts one by one, and what it prints is compared with lifts of the model.
 
 use halyard_model::play::{self, Replayed};
 use halyard_model::store::{MOST_DEPTH, MOST_SHAFTS};
-use halyard_model::{Random, image, text};
+use halyard_model::{Random, Store, image, text};
 use halyard_outside::inputs;
 use std::fs;
 use std::path::PathBuf;
@@ -59,21 +59,39 @@ fn printed(image: &[u8], list: &[u8]) -> String {
     printed_by(Command::new(program()), image, list)
 }
 
-/// What is printed of a replay that ended like this.
-fn expected(end: &Replayed) -> String {
+/// What is printed of a replay that ended like this, and of the same lifts one by one.
+fn expected(start: &Store, list: &[u8], end: &Replayed) -> String {
     let times = |cassette: u8| end.carries[usize::from(cassette)];
     let line = |cassette| format!("{cassette} {}\n", times(cassette));
     let lines: String = end.store.cassettes().into_iter().map(line).collect();
     let (number, count) = (end.number, end.count);
-    format!("number {number}\nlifts {count}\n{lines}sum {count}\n")
+    let (cassettes, rows) = told(start, list);
+    format!("number {number}\nlifts {count}\n{lines}sum {count}\ntold {cassettes} {rows}\n")
+}
+
+/// The cassettes that the lifts of a list tell, added up, and the rows. One that is refused tells nothing, and the next is tried.
+fn told(start: &Store, list: &[u8]) -> (usize, usize) {
+    let mut store = start.clone();
+    let lifts = list
+        .iter()
+        .filter_map(|&byte| play::lift(&mut store, byte).ok());
+    lifts.fold((0, 0), |(cassettes, rows), carried| {
+        (
+            cassettes + usize::from(carried.cassette),
+            rows + carried.row,
+        )
+    })
 }
 
 /// Compares a replay, and gives its end; of a refused image only the number is printed.
 fn compare(image: &[u8], list: &[u8]) -> Result<Replayed, u8> {
-    let end = image::read(image).map(|store| play::replay(&store, list));
-    let wanted = match &end {
-        Ok(end) => expected(end),
-        Err(number) => format!("number {number}\n"),
+    let store = image::read(image);
+    let (wanted, end) = match store {
+        Ok(store) => {
+            let end = play::replay(&store, list);
+            (expected(&store, list, &end), Ok(end))
+        }
+        Err(number) => (format!("number {number}\n"), Err(number)),
     };
     let about = || format!("image {image:02x?}, list {list:02x?}");
     assert_eq!(printed(image, list), wanted, "{}", about());
@@ -88,29 +106,29 @@ fn bytes(store: &str) -> Vec<u8> {
 #[test]
 fn three_lifts_of_document_01() {
     let store = bytes("3x1: [1] [2] []");
-    let wanted = "number 0\nlifts 3\n2 1\n1 2\nsum 3\n";
+    let wanted = "number 0\nlifts 3\n2 1\n1 2\nsum 3\ntold 4 3\n";
     assert_eq!(printed(&store, &[0x02, 0x10, 0x21]), wanted);
-    let nothing = "number 0\nlifts 0\n1 0\n2 0\nsum 0\n";
+    let nothing = "number 0\nlifts 0\n1 0\n2 0\nsum 0\ntold 0 0\n";
     assert_eq!(printed(&store, &[]), nothing);
     assert_eq!(
         printed(&bytes("3x3: [] [] []"), &[]),
-        "number 0\nlifts 0\nsum 0\n"
+        "number 0\nlifts 0\nsum 0\ntold 0 0\n"
     );
 }
 
-/// A lift that is refused counts nothing, nor does what comes after it.
+/// A lift that is refused counts nothing, nor does what comes after it; the single lifts go on past it.
 #[test]
 fn lists_that_stop() {
     let store = bytes("3x2: [1 2] [] [3]");
     let stopped = |list: &[u8]| printed(&store, list);
-    let no_lift = "number 11\nlifts 2\n1 0\n3 1\n2 1\nsum 2\n";
+    let no_lift = "number 11\nlifts 2\n1 0\n3 1\n2 1\nsum 2\ntold 7 4\n";
     assert_eq!(stopped(&[0x01, 0x20, 0x11, 0x12]), no_lift);
     assert_eq!(stopped(&[0x01, 0x20, 0x13, 0x12]), no_lift);
-    let empty = "number 13\nlifts 4\n1 0\n3 1\n2 3\nsum 4\n";
+    let empty = "number 13\nlifts 4\n1 0\n3 1\n2 3\nsum 4\ntold 11 7\n";
     assert_eq!(stopped(&[0x01, 0x10, 0x01, 0x20, 0x21, 0x12]), empty);
-    let full = "number 14\nlifts 2\n1 0\n2 2\n3 0\nsum 2\n";
+    let full = "number 14\nlifts 2\n1 0\n2 2\n3 0\nsum 2\ntold 7 4\n";
     assert_eq!(stopped(&[0x01, 0x10, 0x20, 0x21]), full);
-    let at_once = "number 14\nlifts 0\n1 0\n2 0\n3 0\nsum 0\n";
+    let at_once = "number 14\nlifts 0\n1 0\n2 0\n3 0\nsum 0\ntold 2 1\n";
     assert_eq!(stopped(&[0x20, 0x01]), at_once);
 }
 
@@ -175,7 +193,7 @@ fn longest_lists() {
 #[test]
 fn one_cassette_all_the_time() {
     let list = [0x01, 0x10].repeat(MOST_LIFTS / 2);
-    let wanted = "number 0\nlifts 20000\n7 20000\nsum 20000\n";
+    let wanted = "number 0\nlifts 20000\n7 20000\nsum 20000\ntold 140000 20000\n";
     assert_eq!(printed(&bytes("2x1: [7] []"), &list), wanted);
 }
 
@@ -190,6 +208,6 @@ fn a_small_stack() {
         .args(["-c", "ulimit -s 64 && exec \"$0\""])
         .arg(program());
     command.env_clear();
-    let wanted = expected(&play::replay(&store, &list));
+    let wanted = expected(&store, &list, &play::replay(&store, &list));
     assert_eq!(printed_by(command, &image::write(&store), &list), wanted);
 }
