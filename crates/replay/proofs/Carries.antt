@@ -8,7 +8,7 @@ use native.Mathlib.Omega.{arith}
 use lib.Dec.{eqb}
 use lib.ListN.{length, getD, set, length-set}
 use lib.Seq.{getD-set-same, getD-set-other}
-use Rattle.stacks.specs.Count.{one, sum}
+use Rattle.stacks.specs.Count.{one}
 use Rattle.stacks.proofs.Sums.{sum-equal, sum-same, term-le-sum, sum-differ-two}
 use Rattle.marks.specs.Cassettes.{given}
 use Rattle.lifts.specs.Lifting.{mostRows, slotCount, placedAt}

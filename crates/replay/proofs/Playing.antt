@@ -5,10 +5,9 @@ use Prim.Native.Nat.{ℕ, suc, _+_, _-_, _*_, _^_, _≤_, _<_}
 use native.Mathlib.Decide.{ℕ-discrete}
 use native.Mathlib.Numerals.{add-one}
 use native.Mathlib.Omega.{arith}
-use lib.Dec.{eqb}
 use lib.ListN.{length, getD, set, length-set, drop, drop-of-length-le}
 use lib.Seq.{drop-cons}
-use Rattle.stacks.specs.Count.{one, count}
+use Rattle.stacks.specs.Count.{count}
 use Rattle.lifts.specs.declared.Refusal.{Refusal}
 use Rattle.lifts.specs.Bytes.{left, entered}
 use Rattle.lifts.specs.Lifting.{mostRows, slotCount, shown}
@@ -23,6 +22,7 @@ use Rattle.store.specs.Numbers.{faultNumber}
 use Rattle.store.specs.Promises.{TriedIs}
 use Rattle.store.specs.Slots.{height, topOf}
 use Rattle.store.specs.Sound.{Shaped}
+use Rattle.store.proofs.Acceptance.{accepted-shaped}
 use Rattle.store.proofs.Checks.{fault-one}
 use Rattle.store.proofs.Lifting.{tried-stays, tried-lifts}
 use Rattle.store.proofs.Refusals.{none-allowed}
@@ -47,8 +47,11 @@ count-length {came} {out} {i} {j} w =
       | no n ↦ ap length (w .none n)
     ]
 
--- The replay of a list from s goes on from t with what is left after n lifts, and the counts beside the slots of t are those of the lifts before.
+-- The replay of a list from an accepted store s goes on from t with what is left after n lifts, and the counts beside the slots of t are those of the lifts
+-- before.
 pub record Goes (s : Store) (l : List ℕ) (t : Store) (carries : List ℕ) (n : ℕ) : Type 0 where
+  pub accepted : Accepted s
+  pub shaped : Shaped t
   pub reached : replayFrom s l .reached ≡ replayFrom t (drop n l) .reached
   pub done : replayFrom s l .count ≡ n + replayFrom t (drop n l) .count
   pub number : replayFrom s l .number ≡ replayFrom t (drop n l) .number
@@ -56,8 +59,10 @@ pub record Goes (s : Store) (l : List ℕ) (t : Store) (carries : List ℕ) (n :
   pub uncounted : (length carries ≡ slotCount → ⊥) → NoneCounted carries
   pub few : (i : ℕ) → getD carries i 0 < suc n
 
-pub goes-start : (s : Store) (l carries : List ℕ) → NoneCounted carries → Goes s l s carries 0
-goes-start s l carries z = record {
+pub goes-start : (s : Store) (l carries : List ℕ) → Accepted s → NoneCounted carries → Goes s l s carries 0
+goes-start s l carries p z = record {
+  accepted = p;
+  shaped = accepted-shaped s p;
   reached = refl;
   done = omega arith;
   number = refl;
@@ -97,7 +102,8 @@ module _ (s t : Store) (l carries : List ℕ) (n : ℕ) (g : Goes s l t carries 
         rw (tried-stays t x y q (λ z. refusal-one f (k ∙ z)))
         (ends (End.Stopped f) (next ∙ replay-stops t _ _ (refusalNumber f) (sym (k ∙ same-lift)) (refusal-one f)))
 
-    module _ (p : Accepted s) (c : Shaped t) (d : judgedNumber (r .judged) ≡ 0) where
+    -- and made
+    module _ (d : judgedNumber (r .judged) ≡ 0) where
       none-refuses : liftRefusal t x y ≡ 0
       none-refuses = sym (q .judged .has) ∙ d
 
@@ -108,18 +114,15 @@ module _ (s t : Store) (l carries : List ℕ) (n : ℕ) (g : Goes s l t carries 
       made = tried-lifts t x y q none-refuses
 
       moved : Moved t x y u
-      moved = subst (Moved t x y) (sym made) (lift-moves t x y c allowed)
+      moved = subst (Moved t x y) (sym made) (lift-moves t x y (g .shaped) allowed)
 
-      pub tried-shaped : Shaped u
-      tried-shaped = subst Shaped (sym made) (lifted-shaped t x y c allowed)
-
-      -- where there is a list to go on with, the lift can be counted
+      -- it can be counted
       pub can-count : length l < 2 ^ 64 → CanCount carries (u .heights) x y (r .carried .row .0)
       can-count i = record {
-        left-below = omega (arith, allowed .left-below, c .shafts);
-        left-row = omega (arith, moved .lower, c .heights x, c .rows x);
-        entered-below = omega (arith, allowed .entered-below, c .shafts);
-        entered-row = (omega (arith, q .tells .done none-refuses .top, moved .higher), omega (arith, q .tells .done none-refuses .top, moved .higher, allowed .room, c .rows y));
+        left-below = omega (arith, allowed .left-below, g .shaped .shafts);
+        left-row = omega (arith, moved .lower, g .shaped .heights x, g .shaped .rows x);
+        entered-below = omega (arith, allowed .entered-below, g .shaped .shafts);
+        entered-row = (omega (arith, q .tells .done none-refuses .top, moved .higher), omega (arith, q .tells .done none-refuses .top, moved .higher, allowed .room, g .shaped .rows y));
         few = omega (arith, g .few (16 * x + height u x));
       }
 
@@ -131,14 +134,14 @@ module _ (s t : Store) (l carries : List ℕ) (n : ℕ) (g : Goes s l t carries 
       unfolding shown
       none-entered e =
           let i = 16 * y + height t y in
-          let k : height t y < mostRows = omega (arith, allowed .room, c .rows y) in
-          let o : getD (t .slots) i 0 ≡ 0 = c .none-above y (height t y) (omega (arith, allowed .entered-below, c .shafts)) k (omega arith) in
+          let k : height t y < mostRows = omega (arith, allowed .room, g .shaped .rows y) in
+          let o : getD (t .slots) i 0 ≡ 0 = g .shaped .none-above y (height t y) (omega (arith, allowed .entered-below, g .shaped .shafts)) k (omega arith) in
           omega (
             arith,
-            count-beside (t .slots) carries i (omega (arith, allowed .entered-below, c .shafts)),
+            count-beside (t .slots) carries i (omega (arith, allowed .entered-below, g .shaped .shafts)),
             ap (λ (v : ℕ). carriesOf v (t .slots) carries) o,
             g .counted e 0,
-            never-zero s l p,
+            never-zero s l (g .accepted),
           )
 
       pub goes-lifted : {carries′ : List ℕ} → CountIs carries (16 * x + height u x) (16 * y + (r .carried .row .0 - 1)) carries′ → Goes s l u carries′ (n + 1)
@@ -149,6 +152,8 @@ module _ (s t : Store) (l carries : List ℕ) (n : ℕ) (g : Goes s l t carries 
           let left : i ≡ 16 * x + (height t x - 1) = omega (arith, moved .lower) in
           let entered : j ≡ 16 * y + height t y = omega (arith, q .tells .done none-refuses .top, moved .higher) in
           rw (add-one) (record {
+            accepted = g .accepted;
+            shaped = subst Shaped (sym made) (lifted-shaped t x y (g .shaped) allowed);
             reached = g .reached ∙ ap (λ (o : Outcome). o .reached) lifts-next;
             done = omega (arith, g .done, ap (λ (o : Outcome). o .count) lifts-next);
             number = g .number ∙ ap (λ (o : Outcome). o .number) lifts-next;
@@ -158,7 +163,7 @@ module _ (s t : Store) (l carries : List ℕ) (n : ℕ) (g : Goes s l t carries 
                 g .counted f v,
                 ap (λ (o : Outcome). timesCarried o v) lifts-next,
                 ap₂ (carriesOf v) (ap (λ (u : Store). u .slots) made) (w .moved f ∙ ap₂ (movedOn carries) left entered),
-                carries-lifted t x y c allowed carries f (none-entered f) v,
+                carries-lifted t x y (g .shaped) allowed carries f (none-entered f) v,
               )
               | no m ↦ absurd (m (ap length (sym (w .none m)) ∙ e))
             ];

@@ -7,7 +7,7 @@ use lib.ListN.{length}
 use Rattle.lifts.specs.Bytes.{left, entered}
 use Rattle.store.specs.declared.Store.{Store}
 use Rattle.store.specs.Accept.{storeFault}
-use Rattle.store.specs.Lifts.{liftRefusal, lifted}
+use Rattle.store.specs.Lifts.{Allowed, liftRefusal, lifted}
 use Rattle.store.specs.Lists.{Leads, ended, then, Reachable}
 use Rattle.store.specs.Slots.{topOf}
 use Rattle.store.proofs.Refusals.{allowed-none, none-allowed}
@@ -57,14 +57,20 @@ leads-replay s (b ∷ bs) e =
       | no n ↦ absurd (n (rw (replay-stops s b bs _ refl n) at e))
     ]
 
+-- what holds where no lift is done, and goes from a replay to one with an allowed lift before it, holds of every replay
+pub of-each-replay : (P : Store → List ℕ → Outcome → Type 0) → ((s : Store) (bs : List ℕ) (k : ℕ) → P s bs (noneDone s k))
+    → ((s : Store) (b : ℕ) (bs : List ℕ) → Allowed s (left b) (entered b) → (o : Outcome) → P (lifted s (left b) (entered b)) bs o → P s (b ∷ bs) (oneMore (topOf s (left b)) o))
+    → (s : Store) (bs : List ℕ) → P s bs (replayFrom s bs)
+unfolding replayFrom
+of-each-replay P none more s [] = none s [] 0
+of-each-replay P none more s (b ∷ bs) =
+    elim (ℕ-discrete (liftRefusal s (left b) (entered b)) 0) [
+      | yes u ↦ rw (replay-goes s b bs u) (more s b bs (none-allowed s (left b) (entered b) u) _ (of-each-replay P none more (lifted s (left b) (entered b)) bs))
+      | no n ↦ rw (replay-stops s b bs _ refl n) (none s (b ∷ bs) _)
+    ]
+
 -- the lifts that a replay did lead to the store that it reached
 pub from-reaches : (s : Store) (bs : List ℕ) → Reachable s (replayFrom s bs .reached)
-unfolding replayFrom
-from-reaches s [] = record { lifts = []; leads = ended }
-from-reaches s (b ∷ bs) =
-    elim (ℕ-discrete (liftRefusal s (left b) (entered b)) 0) [
-      | yes u ↦ rw (replay-goes s b bs u)
-          (let q = from-reaches (lifted s (left b) (entered b)) bs in
-          record { lifts = b ∷ q .lifts; leads = then (none-allowed s (left b) (entered b) u) (q .leads) })
-      | no n ↦ rw (replay-stops s b bs _ refl n) (record { lifts = []; leads = ended })
-    ]
+from-reaches =
+    of-each-replay (λ s bs o. Reachable s (o .reached)) (λ s bs k. record { lifts = []; leads = ended })
+    (λ s b bs q o r. record { lifts = b ∷ r .lifts; leads = then q (r .leads) })

@@ -1,7 +1,7 @@
 -- How often a replay carries each cassette (request 2/13): the number 0 never, and all numbers together as often as lifts are done.
 use borrow.Author.Tests.{eq-eqb, ne-eqb}
 use mathlib.Core.Bool.{Bool, true, false}
-use mathlib.Core.List.{List, [], _∷_}
+use mathlib.Core.List.{List}
 use mathlib.Core.Path.{_≡_, refl, sym, ap, _∙_}
 use Prim.Native.Nat.{ℕ, suc, _-_, _%_, _^_, _≤_, _<_}
 use native.Mathlib.Decide.{ℕ-discrete}
@@ -14,39 +14,30 @@ use Rattle.marks.specs.Cassettes.{numbers}
 use Rattle.lifts.specs.Bytes.{left, entered}
 use Rattle.store.specs.declared.Store.{Store}
 use Rattle.store.specs.Accept.{storeFault, Accepted}
-use Rattle.store.specs.Lifts.{liftRefusal, lifted}
 use Rattle.store.specs.Lists.{ended, then}
 use Rattle.store.specs.Slots.{height, slot, topOf}
 use Rattle.store.specs.Sound.{Shaped}
 use Rattle.store.proofs.Acceptance.{accepted-shaped, accepted-sound}
-use Rattle.store.proofs.Refusals.{none-allowed}
 use Rattle.store.proofs.Rows.{slot-numbered}
 use Rattle.store.proofs.Views.{lifted-shaped}
 use Rattle.reach.proofs.Lasting.{leads-accepted}
 use Rattle.replay.specs.declared.Replayed.{Replayed}
 use Rattle.replay.specs.Promises.{carriesOf, ReplayIs}
 use Rattle.replay.specs.Replaying.{Outcome, replayFrom, replay, timesCarried}
-use Rattle.replay.proofs.Replays.{replay-goes, replay-stops, replay-accepted, replay-refuses}
+use Rattle.replay.proofs.Replays.{replay-accepted, replay-refuses, of-each-replay}
 
 -- a lift of an accepted store carries a cassette
+top-cassette : (s : Store) (x : ℕ) → Accepted s → 0 < height s x → 0 ≡ topOf s x → ⊥
+top-cassette s x e h z =
+    let k = height s x - 1 in
+    let r : suc k ≡ height s x = omega (arith, h) in
+    accepted-sound s e .no-gap x k (omega (arith, r)) (ap (slot s x) r ∙ sym z)
+
 pub never-zero : (s : Store) (bs : List ℕ) → Accepted s → timesCarried (replayFrom s bs) 0 ≡ 0
-unfolding replayFrom count
-never-zero s [] e = refl
-never-zero s (b ∷ bs) e =
-    elim (ℕ-discrete (liftRefusal s (left b) (entered b)) 0) [
-      | yes u ↦
-          (let q = none-allowed s (left b) (entered b) u in
-          let k = height s (left b) - 1 in
-          let r : suc k ≡ height s (left b) = omega (arith, q .taken) in
-          let n : 0 ≡ topOf s (left b) → ⊥ = λ z. accepted-sound s e .no-gap (left b) k (omega (arith, r)) (ap (slot s (left b)) r ∙ sym z) in
-          omega (
-            arith,
-            ap (λ (o : Outcome). timesCarried o 0) (replay-goes s b bs u),
-            ap one (ne-eqb 0 (topOf s (left b)) n),
-            never-zero (lifted s (left b) (entered b)) bs (leads-accepted e (then q ended)),
-          ))
-      | no n ↦ ap (λ (o : Outcome). timesCarried o 0) (replay-stops s b bs _ refl n)
-    ]
+unfolding count
+never-zero =
+    of-each-replay (λ s bs o. Accepted s → timesCarried o 0 ≡ 0) (λ s bs k e. refl)
+    (λ s b bs q o r e. omega (arith, ap one (ne-eqb 0 (topOf s (left b)) (top-cassette s (left b) e (q .taken))), r (leads-accepted e (then q ended))))
 
 one-most : (b : Bool) → one b ≤ 1
 one-most true = omega arith
@@ -64,34 +55,24 @@ sum-one n x h =
 
 -- each lift counts once
 total-from : (s : Store) (bs : List ℕ) → Shaped s → sum numbers (timesCarried (replayFrom s bs)) ≡ replayFrom s bs .count
-unfolding replayFrom count
-total-from s [] p = sum-same numbers 0
-total-from s (b ∷ bs) p =
-    elim (ℕ-discrete (liftRefusal s (left b) (entered b)) 0) [
-      | yes u ↦
-          (let t = lifted s (left b) (entered b) in
-          let x = topOf s (left b) in
-          rw (replay-goes s b bs u)
-          (omega (
-            arith,
-            sum-add numbers (λ c. one (eqb c x)) (timesCarried (replayFrom t bs)),
-            sum-one numbers x (slot-numbered s (left b) (height s (left b)) (p .numbered)),
-            total-from t bs (lifted-shaped s (left b) (entered b) p (none-allowed s (left b) (entered b) u)),
-          )))
-      | no n ↦ rw (replay-stops s b bs _ refl n) (sum-same numbers 0)
-    ]
+unfolding count
+total-from =
+    of-each-replay (λ s bs o. Shaped s → sum numbers (timesCarried o) ≡ o .count) (λ s bs k p. sum-same numbers 0)
+    (λ s b bs q o r p.
+    let x = topOf s (left b) in
+    omega (
+      arith,
+      sum-add numbers (λ c. one (eqb c x)) (timesCarried o),
+      sum-one numbers x (slot-numbered s (left b) (height s (left b)) (p .numbered)),
+      r (lifted-shaped s (left b) (entered b) p q),
+    ))
 
 -- and no cassette is carried more often than there are lifts in the list
 times-few : (s : Store) (bs : List ℕ) (c : ℕ) → timesCarried (replayFrom s bs) c ≤ length bs
-unfolding replayFrom count
-times-few s [] c = omega arith
-times-few s (b ∷ bs) c =
-    elim (ℕ-discrete (liftRefusal s (left b) (entered b)) 0) [
-      | yes u ↦
-          rw (replay-goes s b bs u)
-          (omega (arith, one-most (eqb c (topOf s (left b))), times-few (lifted s (left b) (entered b)) bs c))
-      | no n ↦ rw (replay-stops s b bs _ refl n) (omega arith)
-    ]
+unfolding count
+times-few =
+    of-each-replay (λ s bs o. (c : ℕ) → timesCarried o c ≤ length bs) (λ s bs k c. omega arith)
+    (λ s b bs q o r c. omega (arith, one-most (eqb c (topOf s (left b))), r c))
 
 -- what the lookup by number gives for the answer of a replay
 pub carries-looked-up : (s : Store) (bs : List ℕ) {r : Replayed} → length bs < 2 ^ 64 → ReplayIs (replay s bs) r → (c : ℕ)

@@ -1,10 +1,9 @@
 -- One answer alone keeps the promise of a single lift: two that do are the same (document 01, "Agreement on the contracts").
-use mathlib.Core.Path.{_≡_, sym, ap, _∙_, subst}
+use mathlib.Core.Path.{_≡_, sym, _∙_}
 use Prim.Native.Nat.{ℕ}
 use native.Mathlib.Decide.{ℕ-discrete}
 use native.Mathlib.Omega.{arith}
 use Rattle.lifts.specs.declared.Carried.{Carried}
-use Rattle.lifts.specs.declared.Row.{Row}
 use Rattle.store.specs.declared.Store.{Store}
 use Rattle.store.specs.declared.Lifted.{Lifted}
 use Rattle.store.specs.Lifts.{liftNumber}

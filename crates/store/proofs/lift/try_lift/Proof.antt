@@ -1,7 +1,6 @@
 -- `try_lift` meets its contract: the lift is judged by the depth and the heights, and made in the store's own arrays where it is allowed.
 use borrow.Author.Needs.{needs}
 use mathlib.Core.Path.{_≡_, sym, ap, _∙_}
-use Prim.Native.Nat.{ℕ}
 use Rattle.lifts.specs.Numbers.{judgedNumber}
 use Rattle.store.specs.declared.Store.{Store}
 use Rattle.store.specs.Lifts.{liftRefusal}
