@@ -17,10 +17,12 @@ use Rattle.store.specs.declared.Store.{Store}
 use Rattle.store.specs.Accept.{storeFault, Accepted}
 use Rattle.reach.proofs.Lasting.{leads-accepted}
 use Rattle.reach.proofs.OnePlace.{one-slot}
+use Rattle.replay.specs.declared.Played.{Played}
 use Rattle.replay.specs.declared.Replayed.{Replayed}
-use Rattle.replay.specs.Promises.{carriesOf, ReplayIs}
-use Rattle.replay.specs.Replaying.{Outcome, replay, timesCarried}
+use Rattle.replay.specs.Promises.{carriesOf, PlayIs, ReplayIs}
+use Rattle.replay.specs.Replaying.{Outcome, replayFrom, replay, timesCarried}
 use Rattle.replay.proofs.Carries.{count-beside}
+use Rattle.replay.proofs.Playing.{replay-played}
 use Rattle.replay.proofs.Replays.{replay-accepted, replay-refuses, from-reaches}
 use Rattle.replay.proofs.Times.{never-zero}
 
@@ -75,3 +77,16 @@ replay-exact s bs {x} {y} k l p q =
       count = (p .count ∙ sym (q .count)) i;
       end = q .end .alone (x .end) (p .end .has) i;
     }
+
+-- so it is with lifts made in lent arrays, however many counts are lent
+pub play-exact : (s : Store) (bs : List ℕ) → Accepted s → {t u : Store} {k l : List ℕ} {x y : Played} → length k ≡ length l → PlayIs (replayFrom s bs) t k x
+    → PlayIs (replayFrom s bs) u l y → (t ≡ u) × (k ≡ l) × (x ≡ y)
+play-exact s bs e {t} {u} {k} {l} {x} {y} n p q =
+    (p .store ∙ sym (q .store), counts, λ i. record { count = (p .count ∙ sym (q .count)) i; end = q .end .alone (x .end) (p .end .has) i })
+  where
+    counts : k ≡ l
+    counts =
+        elim (ℕ-discrete (length k) slotCount) [
+          | yes f ↦ ap (λ (r : Replayed). r .carries) (replay-exact s bs f (sym n ∙ f) (replay-played s t bs k x e f p) (replay-played s u bs l y e (sym n ∙ f) q))
+          | no m ↦ ext-getD 0 k l n λ i h. p .uncounted m i ∙ sym (q .uncounted (λ f. m (n ∙ f)) i)
+        ]

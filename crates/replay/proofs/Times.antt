@@ -84,7 +84,17 @@ carries-looked-up s bs {r} h p c =
       | no n ↦ omega (arith, p .carries c, ap (λ (o : Outcome). timesCarried o c) (replay-refuses s bs (storeFault s) refl n))
     ]
 
--- "The sum over all cassettes is the count of lifts done."
+-- 0 marks an empty slot, and is no cassette
+pub none-of-zero : (s : Store) (bs : List ℕ) {r : Replayed} → ReplayIs (replay s bs) r → carriesOf 0 (r .store .slots) (r .carries) ≡ 0
+unfolding count
+none-of-zero s bs p =
+    p .carries 0
+    ∙ elim (ℕ-discrete (storeFault s) 0) [
+      | yes e ↦ rw (replay-accepted s bs e) (never-zero s bs e)
+      | no n ↦ rw (replay-refuses s bs _ refl n) refl
+    ]
+
+-- "The sum over all cassettes is the count of lifts done.": over all numbers that a slot may show, of which 0 counts nothing
 pub carries-total : (s : Store) (bs : List ℕ) {r : Replayed} → ReplayIs (replay s bs) r → sum numbers (λ c. carriesOf c (r .store .slots) (r .carries)) ≡ r .count
 unfolding count
 carries-total s bs {r} p =

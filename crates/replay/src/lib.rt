@@ -50,7 +50,7 @@ fn count_if(test: bool, times: usize) -> usize
 }
 
 impl Replayed {
-    // How often a cassette was carried: the counts beside the slots that show it, added up.
+    // How often a cassette was carried: the counts beside the slots that show it, added up, of which the low 64 bits.
     pub fn carries_of(self, c: Cassette) -> usize
         ensures { λ r. ⌜ r ≡ carriesOf c (self .store .slots) (self .carries) % 2 ^ 64 ⌝ }
     {
@@ -80,7 +80,8 @@ fn no_carries() -> Carries
     [0; 256]
 }
 
-// After a lift that landed in a row: the count of its cassette goes with it, one more. Where no counts are lent, none is kept.
+// After a lift that landed in a row: the count of its cassette goes with it, one more. Where there isn't a count for each slot, none
+// changes.
 fn count_carry(carries: &mut [usize], heights: &Heights, from: Shaft, to: Shaft, row: Row)
     requires { ⌜ CanCount (now carries) (now heights) (from .0) (to .0) (row .0) ⌝ }
     ensures { λ r. ⌜ CountIs (now (carries .entry)) (16 * from .0 + heightIn (now (heights .entry)) (from .0)) (16 * to .0 + (row .0 - 1)) (now (carries .exit)) ⌝ }
@@ -95,7 +96,7 @@ fn count_carry(carries: &mut [usize], heights: &Heights, from: Shaft, to: Shaft,
 }
 
 // The lifts of a list, one after the other, on an accepted store of m shafts and depth h, whose heights and slots are changed in place. A
-// count beside each slot is lent, all of them 0, or none, where nobody asks how often a cassette was carried.
+// count of 0 is lent for each slot, or none at all where nobody asks how often a cassette was carried.
 pub fn play(
     m: u8,
     h: u8,

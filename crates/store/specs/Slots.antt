@@ -36,7 +36,7 @@ height s x = heightIn (s .heights) x
 abbrev pub slot : Store → ℕ → ℕ → ℕ
 slot s x y = shown (s .slots) x y
 
--- the cassette on top of shaft x
+-- the cassette on top of shaft x, 0 for an empty shaft
 abbrev pub topOf : Store → ℕ → ℕ
 topOf s x = slot s x (height s x)
 

@@ -98,7 +98,7 @@ impl Store {
         self.slots[16 * i + (row - 1)]
     }
 
-    // One lift: the changed store and the cassette that was carried, or the store as it came with the number that refuses it.
+    // One lift: the changed store, with the cassette carried and its row, or the store as it came with the number that refuses it.
     pub fn lift(self, from: Shaft, to: Shaft) -> Lifted
         ensures { λ r. ⌜ LiftIs self (from .0) (to .0) r ⌝ }
     {

@@ -2,9 +2,9 @@
 use borrow.Author.Needs.{needs}
 use mathlib.Core.List.{List}
 use mathlib.Core.Path.{_≡_, refl, ap, _∙_}
-use Prim.Native.Nat.{ℕ, _+_, _-_, _*_}
+use Prim.Native.Nat.{ℕ, _+_, _-_, _*_, _<_}
 use native.Mathlib.Omega.{arith}
-use lib.ListN.{getD, set, length-set}
+use lib.ListN.{length, getD, set}
 use Rattle.replay.specs.Counting.{movedOn}
 use Rattle.replay.proofs.count_carry.Statement.{statement}
 use Rattle.replay.proofs.count_carry.Tie as tie
@@ -20,8 +20,10 @@ add-carries c =
 slice-write-carries-2 : tie.Need-slice-write-carries-2
 slice-write-carries-2 c =
     let w = c .before .before .before .before .before .before in
+    let a = w .before .before .args in
     let q = w .before .before .pre in
-    omega (arith, q .entered-below, q .entered-row, w .if1 .left, length-set (w .before .before .args .carries .now) (16 * w .before .before .args .from .0 + c .before .before .before .height-at .result) 0)
+    let h : 16 * a .to .0 + (a .row .0 - 1) < length (a .carries .now) = omega (arith, q .entered-below, q .entered-row, w .if1 .left) in
+    search (needs, h)
 
 returns-2 : tie.Need-returns-2
 returns-2 c =
