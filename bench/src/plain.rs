@@ -3,7 +3,7 @@
 
 use crate::cases::Case;
 use crate::thesis::{self, Grid};
-use halyard_model::{Store, image, rule, uncover};
+use halyard_model::{Store, image, play, rule, uncover};
 use halyard_outside::calls::{Answer, Order};
 use halyard_outside::expected;
 
@@ -34,11 +34,26 @@ pub fn plan(case: &Case, list: &mut [u8]) -> Answer {
     }
 }
 
-/// Replays a list on the start.
+/// Replays a list on the start. It counts no carries, as the C call counts none.
 pub fn replay(case: &Case, list: &[u8], out: &mut [u8]) -> Answer {
-    let (answer, image) = expected::replay(&case.start_image, list, out.len());
+    let mut store = match image::read(&case.start_image) {
+        Ok(store) => store,
+        Err(number) => return Answer::of(number, 0),
+    };
+    if out.len() < case.start_image.len() {
+        return Answer::of(10, 0);
+    }
+    let (mut count, mut number) = (0, 0);
+    for &byte in list {
+        if let Err(refusal) = play::lift(&mut store, byte) {
+            number = refusal;
+            break;
+        }
+        count += 1;
+    }
+    let image = image::write(&store);
     out[..image.len()].copy_from_slice(&image);
-    answer
+    Answer::of(number, count)
 }
 
 /// Answers a row of orders on the start, in place.
