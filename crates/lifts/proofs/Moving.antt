@@ -1,12 +1,12 @@
 -- Rows of shafts in a list of slots: a row by its place, what writing one row does, and that the lift as the code makes it is the definition's.
 use mathlib.Core.List.{List}
-use mathlib.Core.Path.{_≡_, refl, sym, ap, ap₂, _∙_}
+use mathlib.Core.Path.{_≡_, refl, sym, ap, _∙_}
 use Prim.Native.Nat.{ℕ, zero, suc, _+_, _-_, _*_, _≤_, _<_}
 use native.Mathlib.Omega.{arith}
 use lib.ListN.{length, getD, set, length-set}
 use lib.Seq.{getD-set-same, getD-set-other}
 use Rattle.lifts.specs.declared.Carried.{Carried}
-use Rattle.lifts.specs.Lifting.{mostShafts, mostRows, slotCount, heightIn, shown, placedAt, heightsAfter}
+use Rattle.lifts.specs.Lifting.{mostShafts, mostRows, slotCount, heightIn, shown, placedAt, heightsAfter, slotsAfter}
 use Rattle.lifts.specs.Carried.{CanCarry, CarriedIs}
 
 -- row y of shaft x by its place in the slots
@@ -15,7 +15,7 @@ unfolding shown
 shown-place l x zero h = absurd (omega arith)
 shown-place l x (suc k) h = ap (λ (n : ℕ). getD l (16 * x + n) 0) (omega arith)
 
-pub placed-place : (l : List ℕ) (x y c : ℕ) → 0 < y → placedAt l x y c ≡ set l (16 * x + (y - 1)) c
+placed-place : (l : List ℕ) (x y c : ℕ) → 0 < y → placedAt l x y c ≡ set l (16 * x + (y - 1)) c
 unfolding placedAt
 placed-place l x zero c h = absurd (omega arith)
 placed-place l x (suc k) c h = ap (λ (n : ℕ). set l (16 * x + n) c) (omega arith)
@@ -38,16 +38,22 @@ placed-other l x n c y zero i j d = refl
 placed-other l x zero c y (suc k) i j d = refl
 placed-other l x (suc n) c y (suc k) i j d = getD-set-other l (16 * x + n) (16 * y + k) c 0 λ e. d (omega arith, omega arith)
 
+-- the slots after a lift, by their places
+pub slots-after : (heights slots : List ℕ) (a b : ℕ) → 0 < heightIn heights a
+    → slotsAfter heights slots a b ≡ set (set slots (16 * a + (heightIn heights a - 1)) 0) (16 * b + heightIn heights b) (shown slots a (heightIn heights a))
+unfolding placedAt
+slots-after heights slots a b h =
+    ap (λ (l : List ℕ). set l (16 * b + heightIn heights b) (shown slots a (heightIn heights a))) (placed-place slots a (heightIn heights a) 0 h)
+
 -- what the code has done is the lift
 pub carried : (heights slots : List ℕ) (a b : ℕ) (r : Carried) → CanCarry heights a b → r .cassette ≡ getD slots (16 * a + (heightIn heights a - 1)) 0
     → r .row .0 ≡ heightIn heights b + 1
     → CarriedIs heights slots a b (heightsAfter heights a b) (set (set slots (16 * a + (heightIn heights a - 1)) 0) (16 * b + heightIn heights b) (r .cassette)) r
-unfolding placedAt
 carried heights slots a b r q c k =
     let e : r .cassette ≡ shown slots a (heightIn heights a) = c ∙ sym (shown-place slots a (heightIn heights a) (q .taken)) in
     record {
       heights-are = refl;
-      slots-are = ap₂ (λ (l : List ℕ) (v : ℕ). set l (16 * b + heightIn heights b) v) (sym (placed-place slots a (heightIn heights a) 0 (q .taken))) e;
+      slots-are = ap (set (set slots (16 * a + (heightIn heights a - 1)) 0) (16 * b + heightIn heights b)) e ∙ sym (slots-after heights slots a b (q .taken));
       cassette = e;
       row = omega arith;
     }

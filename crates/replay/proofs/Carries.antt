@@ -11,8 +11,8 @@ use lib.Seq.{getD-set-same, getD-set-other}
 use Rattle.stacks.specs.Count.{one}
 use Rattle.stacks.proofs.Sums.{sum-equal, sum-same, term-le-sum, sum-differ-two}
 use Rattle.marks.specs.Cassettes.{given}
-use Rattle.lifts.specs.Lifting.{mostRows, slotCount, placedAt}
-use Rattle.lifts.proofs.Moving.{shown-place, placed-place}
+use Rattle.lifts.specs.Lifting.{mostRows, slotCount}
+use Rattle.lifts.proofs.Moving.{shown-place, slots-after}
 use Rattle.store.specs.declared.Store.{Store}
 use Rattle.store.specs.Lifts.{Allowed, lifted}
 use Rattle.store.specs.Slots.{height, topOf}
@@ -71,22 +71,15 @@ module _ (slots carries : List ℕ) (i j v : ℕ) (differ : i ≡ j → ⊥) (be
         given-zero (eqb c (getD slots j 0)) (getD carries j 0) none,
       )
 
--- the slots after a lift, by their places
-lifted-slots : (s : Store) (a b : ℕ) → 0 < height s a
-    → lifted s a b .slots ≡ set (set (s .slots) (16 * a + (height s a - 1)) 0) (16 * b + height s b) (topOf s a)
-unfolding lifted
-lifted-slots s a b h =
-    placed-place (placedAt (s .slots) a (height s a) 0) b (suc (height s b)) (topOf s a) (omega arith)
-    ∙ ap₂ (λ (l : List ℕ) (k : ℕ). set l k (topOf s a)) (placed-place (s .slots) a (height s a) 0 h) (omega arith)
-
 -- a lift counts for the cassette that it carried, and for no other
 pub carries-lifted : (s : Store) (a b : ℕ) → Shaped s → Allowed s a b → (carries : List ℕ) → length carries ≡ slotCount → getD carries (16 * b + height s b) 0 ≡ 0
     → (c : ℕ) → carriesOf c (lifted s a b .slots) (movedOn carries (16 * a + (height s a - 1)) (16 * b + height s b)) ≡ one (eqb c (topOf s a)) + carriesOf c (s .slots) carries
+unfolding lifted
 carries-lifted s a b p q carries e z c =
     let i = 16 * a + (height s a - 1) in
     let j = 16 * b + height s b in
     let top : height s a ≤ mostRows = omega (arith, p .heights a, p .rows a) in
     let room : height s b < mostRows = omega (arith, q .room, p .rows b) in
-    ap (λ (l : List ℕ). carriesOf c l (movedOn carries i j)) (lifted-slots s a b (q .taken))
+    ap (λ (l : List ℕ). carriesOf c l (movedOn carries i j)) (slots-after (s .heights) (s .slots) a b (q .taken))
     ∙ moved-on (s .slots) carries i j (topOf s a) (λ h. q .differ (omega (arith, q .taken, top, room))) (omega (arith, q .left-below, p .shafts, top), omega (arith, q .entered-below, p .shafts, room)) (p .slots-sized, e)
     (sym (shown-place (s .slots) a (height s a) (q .taken))) z c
