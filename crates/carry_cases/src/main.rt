@@ -31,21 +31,22 @@ fn fill(path: &[u8], buffer: &mut [u8]) -> usize
     n
 }
 
-// A cassette and how often it was carried; nothing of an empty slot.
-fn say_slot(c: u8, times: usize) {
+// A cassette, how often it was carried by the count beside its slot, and by its number; nothing of an empty slot.
+fn say_slot(c: u8, times: usize, looked_up: usize) {
     if c != 0 {
         say(b"", c as u64);
         say(b" ", times as u64);
+        say(b" ", looked_up as u64);
         io::write_all(STDOUT_FILENO, b"\n");
     }
 }
 
-// The cassettes of a store, shaft by shaft from row 1 upward, with the counts beside their slots.
-fn say_slots(slots: &[u8], carries: &[usize]) {
+// The cassettes of a store, shaft by shaft from row 1 upward.
+fn say_slots(replayed: Replayed, slots: &[u8], carries: &[usize]) {
     let mut i: usize = 0;
     while i < slots.len() {
         if i < carries.len() {
-            say_slot(slots[i], carries[i]);
+            say_slot(slots[i], carries[i], replayed.carries_of(slots[i]));
         }
         i += 1;
     }
@@ -75,7 +76,7 @@ fn say_counts(replayed: Replayed) {
     let reached = replayed.store;
     let slots = reached.slots;
     let carries = replayed.carries;
-    say_slots(&slots, &carries);
+    say_slots(replayed, &slots, &carries);
     say(b"sum ", all_carries(replayed, &slots));
     io::write_all(STDOUT_FILENO, b"\n");
 }

@@ -36,6 +36,14 @@ unfolding replay
 replay-refuses s bs zero e n = absurd (n refl)
 replay-refuses s bs (suc k) e n = rw (e, replay)
 
+-- what holds of the replay from an accepted store, and where no lift is done, holds of the replay of any store
+pub of-any-store : (P : Outcome → Type 0) (s : Store) (bs : List ℕ) → (storeFault s ≡ 0 → P (replayFrom s bs)) → ((k : ℕ) → P (noneDone s k)) → P (replay s bs)
+of-any-store P s bs p q =
+    elim (ℕ-discrete (storeFault s) 0) [
+      | yes e ↦ rw (replay-accepted s bs e) (p e)
+      | no n ↦ rw (replay-refuses s bs _ refl n) (q _)
+    ]
+
 -- a list that leads to t is replayed to its end, and to t
 pub replay-leads : {s t : Store} {bs : List ℕ} → Leads s bs t
     → (replayFrom s bs .reached ≡ t) × (replayFrom s bs .count ≡ length bs) × (replayFrom s bs .number ≡ 0)

@@ -3,8 +3,7 @@ use borrow.Author.Tests.{eq-eqb, ne-eqb}
 use mathlib.Core.Bool.{Bool, true, false}
 use mathlib.Core.List.{List}
 use mathlib.Core.Path.{_≡_, refl, sym, ap, _∙_}
-use Prim.Native.Nat.{ℕ, suc, _-_, _%_, _^_, _≤_, _<_}
-use native.Mathlib.Decide.{ℕ-discrete}
+use Prim.Native.Nat.{ℕ, _-_, _%_, _^_, _≤_, _<_}
 use native.Mathlib.Omega.{arith}
 use lib.Dec.{eqb}
 use lib.ListN.{length}
@@ -13,31 +12,25 @@ use Rattle.stacks.proofs.Sums.{sum-equal, sum-add, sum-same, sum-differ-one}
 use Rattle.marks.specs.Cassettes.{numbers}
 use Rattle.lifts.specs.Bytes.{left, entered}
 use Rattle.store.specs.declared.Store.{Store}
-use Rattle.store.specs.Accept.{storeFault, Accepted}
+use Rattle.store.specs.Accept.{Accepted}
 use Rattle.store.specs.Lists.{ended, then}
-use Rattle.store.specs.Slots.{height, slot, topOf}
+use Rattle.store.specs.Slots.{height, topOf}
 use Rattle.store.specs.Sound.{Shaped}
-use Rattle.store.proofs.Acceptance.{accepted-shaped, accepted-sound}
+use Rattle.store.proofs.Acceptance.{accepted-shaped, accepted-row}
 use Rattle.store.proofs.Rows.{slot-numbered}
 use Rattle.store.proofs.Views.{lifted-shaped}
 use Rattle.reach.proofs.Lasting.{leads-accepted}
 use Rattle.replay.specs.declared.Replayed.{Replayed}
 use Rattle.replay.specs.Promises.{carriesOf, ReplayIs}
-use Rattle.replay.specs.Replaying.{Outcome, replayFrom, replay, timesCarried}
-use Rattle.replay.proofs.Replays.{replay-accepted, replay-refuses, of-each-replay}
+use Rattle.replay.specs.Replaying.{replayFrom, replay, timesCarried}
+use Rattle.replay.proofs.Replays.{of-any-store, of-each-replay}
 
 -- a lift of an accepted store carries a cassette
-top-cassette : (s : Store) (x : ℕ) → Accepted s → 0 < height s x → 0 ≡ topOf s x → ⊥
-top-cassette s x e h z =
-    let k = height s x - 1 in
-    let r : suc k ≡ height s x = omega (arith, h) in
-    accepted-sound s e .no-gap x k (omega (arith, r)) (ap (slot s x) r ∙ sym z)
-
 pub never-zero : (s : Store) (bs : List ℕ) → Accepted s → timesCarried (replayFrom s bs) 0 ≡ 0
 unfolding count
 never-zero =
     of-each-replay (λ s bs o. Accepted s → timesCarried o 0 ≡ 0) (λ s bs k e. refl)
-    (λ s b bs q o r e. omega (arith, ap one (ne-eqb 0 (topOf s (left b)) (top-cassette s (left b) e (q .taken))), r (leads-accepted e (then q ended))))
+    (λ s b bs q o r e. omega (arith, ap one (ne-eqb 0 (topOf s (left b)) (λ z. accepted-row s e (left b) (height s (left b)) (q .taken) (omega arith) (sym z))), r (leads-accepted e (then q ended))))
 
 one-most : (b : Bool) → one b ≤ 1
 one-most true = omega arith
@@ -78,29 +71,17 @@ times-few =
 pub carries-looked-up : (s : Store) (bs : List ℕ) {r : Replayed} → length bs < 2 ^ 64 → ReplayIs (replay s bs) r → (c : ℕ)
     → carriesOf c (r .store .slots) (r .carries) % 2 ^ 64 ≡ timesCarried (replay s bs) c
 unfolding count
-carries-looked-up s bs {r} h p c =
-    elim (ℕ-discrete (storeFault s) 0) [
-      | yes e ↦ omega (arith, p .carries c, ap (λ (o : Outcome). timesCarried o c) (replay-accepted s bs e), times-few s bs c)
-      | no n ↦ omega (arith, p .carries c, ap (λ (o : Outcome). timesCarried o c) (replay-refuses s bs (storeFault s) refl n))
-    ]
+carries-looked-up s bs {r} h p c = omega (arith, p .carries c, of-any-store (λ o. timesCarried o c ≤ length bs) s bs (λ e. times-few s bs c) (λ k. omega arith))
 
 -- 0 marks an empty slot, and is no cassette
 pub none-of-zero : (s : Store) (bs : List ℕ) {r : Replayed} → ReplayIs (replay s bs) r → carriesOf 0 (r .store .slots) (r .carries) ≡ 0
 unfolding count
-none-of-zero s bs p =
-    p .carries 0
-    ∙ elim (ℕ-discrete (storeFault s) 0) [
-      | yes e ↦ rw (replay-accepted s bs e) (never-zero s bs e)
-      | no n ↦ rw (replay-refuses s bs _ refl n) refl
-    ]
+none-of-zero s bs p = p .carries 0 ∙ of-any-store (λ o. timesCarried o 0 ≡ 0) s bs (never-zero s bs) (λ k. refl)
 
 -- "The sum over all cassettes is the count of lifts done.": over all numbers that a slot may show, of which 0 counts nothing
 pub carries-total : (s : Store) (bs : List ℕ) {r : Replayed} → ReplayIs (replay s bs) r → sum numbers (λ c. carriesOf c (r .store .slots) (r .carries)) ≡ r .count
 unfolding count
 carries-total s bs {r} p =
     sum-equal numbers _ (timesCarried (replay s bs)) (λ c h. p .carries c)
-    ∙ elim (ℕ-discrete (storeFault s) 0) [
-      | yes e ↦ rw (replay-accepted s bs e) (total-from s bs (accepted-shaped s e))
-      | no n ↦ rw (replay-refuses s bs _ refl n) (sum-same numbers 0)
-    ]
+    ∙ of-any-store (λ o. sum numbers (timesCarried o) ≡ o .count) s bs (λ e. total-from s bs (accepted-shaped s e)) (λ k. sum-same numbers 0)
     ∙ sym (p .count)

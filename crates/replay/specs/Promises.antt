@@ -26,8 +26,8 @@ pub record ReplayIs (o : Outcome) (r : Replayed) : Type 0 where
   pub end : Only endNumber (o .number) (r .end)
   pub carries : (c : ℕ) → carriesOf c (r .store .slots) (r .carries) ≡ timesCarried o c
 
--- Lifts made in lent arrays came to an outcome, and so did the counts, where there is one for each slot; else they are still 0. t and carries are what was
--- left.
+-- The lifts of a list, made in lent arrays, came to an outcome; t and carries are what they left. With a count for each slot, the counts say how often each
+-- cassette was carried; else they are still 0.
 pub record PlayIs (o : Outcome) (t : Store) (carries : List ℕ) (r : Played) : Type 0 where
   pub store : t ≡ o .reached
   pub count : r .count ≡ o .count

@@ -1,4 +1,5 @@
-// The replay of a list of lifts (document 01, "Which comes first"): run through, or stopped at the first lift that is refused.
+// The replay of a list of lifts (document 01, "Which comes first"): run through, or stopped at the first lift that is refused;
+// and how often each cassette was carried (document 02, 2/13).
 use lift_bytes::entered_of;
 use lift_bytes::left_of;
 use lifts::Heights;

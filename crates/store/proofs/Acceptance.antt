@@ -1,15 +1,15 @@
 -- A store is accepted exactly if it is sound.
 use borrow.Author.Tests.{ltb-false}
 use mathlib.Core.Bool.{true, not}
-use mathlib.Core.Path.{_≡_, refl}
-use Prim.Native.Nat.{ℕ, _≤_, _<_}
+use mathlib.Core.Path.{_≡_, refl, ap, _∙_}
+use Prim.Native.Nat.{ℕ, suc, _-_, _≤_, _<_}
 use native.Mathlib.Omega.{arith}
 use Rattle.marks.specs.Cassettes.{given}
 use Rattle.marks.specs.Marking.{noMarks, withMarks, markCount, Marked}
 use Rattle.marks.proofs.Faulted.{first-none, given-none, not-given}
 use Rattle.marks.proofs.Takes.{taken-cassette, marks-counted}
 use Rattle.store.specs.declared.Store.{Store}
-use Rattle.store.specs.Slots.{depth, height, cassettesBelow, cassettes, cassetteCount}
+use Rattle.store.specs.Slots.{depth, height, slot, cassettesBelow, cassettes, cassetteCount}
 use Rattle.store.specs.Accept.{inPlace, shaftsFault, storeFault, Accepted}
 use Rattle.rows.specs.Rows.{rowsFault}
 use Rattle.store.specs.Sound.{Shaped, Sound}
@@ -47,6 +47,12 @@ module _ (s : Store) where
       once = walked-once s (s .m) (none-met .1);
       few = none-met .2;
     }
+
+    -- a row up to the height shows a cassette
+    pub accepted-row : (x y : ℕ) → 0 < y → y ≤ height s x → slot s x y ≡ 0 → ⊥
+    accepted-row x y h i z =
+        let e : suc (y - 1) ≡ y = omega arith in
+        accepted-sound .no-gap x (y - 1) (omega (arith, e)) (ap (slot s x) e ∙ z)
 
     -- the marks of its cassettes are as many as its cassettes
     pub accepted-marked : Marked (withMarks noMarks (cassettes s)) (cassettes s)

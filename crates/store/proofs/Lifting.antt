@@ -19,7 +19,7 @@ use Rattle.store.specs.declared.Store.{Store}
 use Rattle.store.specs.declared.Fault.{Fault}
 use Rattle.store.specs.declared.Answer.{Answer}
 use Rattle.store.specs.declared.Tried.{Tried}
-use Rattle.store.specs.Slots.{depth, height, slot, hasSlot, contentOf}
+use Rattle.store.specs.Slots.{depth, height, slot, topOf, hasSlot, contentOf}
 use Rattle.store.specs.Accept.{storeFault}
 use Rattle.store.specs.Lifts.{Allowed, liftRefusal, lifted, liftNumber, whenNone, afterLift}
 use Rattle.store.specs.Numbers.{faultNumber, answerNumber}
@@ -70,7 +70,7 @@ module _ (s : Store) (a b : ℕ) where
   told-nothing : (k : ℕ) (t : Store) (c : Carried) → (k ≡ 0 → ⊥) → (c .cassette ≡ 0) × (c .row .0 ≡ 0) → Tells k s t a b c
   told-nothing k t c n e = record { refused = λ _. e; done = λ z. absurd (n z) }
 
-  told-done : (k : ℕ) (c : Carried) → Shaped s → Allowed s a b → k ≡ 0 → c .cassette ≡ slot s a (height s a) → c .row .0 ≡ suc (height s b)
+  told-done : (k : ℕ) (c : Carried) → Shaped s → Allowed s a b → k ≡ 0 → c .cassette ≡ topOf s a → c .row .0 ≡ suc (height s b)
       → Tells k s (lifted s a b) a b c
   told-done k c p q z e f =
       let v = lift-moves s a b p q in
@@ -90,7 +90,7 @@ module _ (s : Store) (a b : ℕ) where
         tells = told-nothing (liftRefusal s a b) s c n z;
       }
 
-  pub tried-made : (t : Store) (c : Carried) → Shaped s → liftRefusal s a b ≡ 0 → t ≡ lifted s a b → c .cassette ≡ slot s a (height s a)
+  pub tried-made : (t : Store) (c : Carried) → Shaped s → liftRefusal s a b ≡ 0 → t ≡ lifted s a b → c .cassette ≡ topOf s a
       → c .row .0 ≡ suc (height s b) → TriedIs s a b t (record { judged = Judged.Allowed; carried = c })
   tried-made t c p z g e f = record {
     judged = only-judged (sym z);

@@ -1,4 +1,5 @@
-// Runs stores, lifts and replays beyond the proved cases and prints the number that each gets (0: nothing refused). Held to the file stdout.
+// Runs stores, lifts and replays beyond the proved cases and prints the number that each gets (0: nothing refused), what lifts tell and how
+// often cassettes were carried. Held to the file stdout.
 use libc::STDOUT_FILENO;
 use lifts::Row;
 use lifts::Shaft;

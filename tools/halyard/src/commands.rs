@@ -1,8 +1,7 @@
 //! What the tool does for each of its commands.
 
-use crate::{depth, draw};
-use halyard_model::play::{Carried, Replayed};
-use halyard_model::{Store, image, play, text};
+use crate::{depth, draw, played};
+use halyard_model::{Store, image, text};
 use std::fs;
 use std::io::Read;
 
@@ -20,7 +19,8 @@ halyard: stores as text and as images, and lists played for a person to see
 TEXT is such as '3x2: [1 2] [] [3]': shafts, depth, the cassettes of each shaft bottom first.
 STORE, START and GOAL are an image file or TEXT. LIST is a file that has what the program 'plan'
 printed, or '-' for standard input; with --bytes it has a byte for each lift, as the C calls write it.
-The carries are how often each cassette of the store was carried, up to a lift that is refused.
+The carries are how often each cassette of the store was carried, up to a lift that is refused; they
+add up to the lifts done.
 
 This tool is a convenience outside what is proved. It shares no code with the proved library, and
 nothing proves what it says. It ends with status 1 where something is wrong or refused.
@@ -59,11 +59,11 @@ pub fn run(words: &[&str]) -> Result<Said, String> {
         ["show", store] => Ok(draw::store(&read_store(store)?, &[]).into()),
         ["play", store, list] => {
             let (store, list) = (read_store(store)?, read_list(list, bytes)?);
-            Ok(played(&store, &list, options.contains(&"--end")))
+            Ok(played::run(&store, &list, options.contains(&"--end")))
         }
         ["leads", start, goal, list] => {
             let (start, goal) = (read_store(start)?, read_store(goal)?);
-            Ok(leads(&start, &goal, &read_list(list, bytes)?)?.into())
+            Ok(played::leads(&start, &goal, &read_list(list, bytes)?)?.into())
         }
         ["depth", store, ref cassettes @ ..] if !cassettes.is_empty() => {
             depth::run(&read_store(store)?, cassettes)
@@ -109,78 +109,6 @@ fn read_list(file: &str, bytes: bool) -> Result<Vec<u8>, String> {
         return Ok(content);
     }
     text::read_list(&String::from_utf8_lossy(&content))
-}
-
-/// The store drawn before and after each lift, or only at the end, up to a lift that is refused, and then the carries.
-fn played(start: &Store, list: &[u8], end_only: bool) -> Said {
-    let end = play::replay(start, list);
-    let mut shown = if end_only {
-        let drawn = draw::store(&end.store, &[]);
-        vec![format!("lifts done: {}\n{drawn}", end.count)]
-    } else {
-        each_lift(start, list, end.count)
-    };
-    shown.push(carries(&end));
-    Said {
-        text: shown.join("\n"),
-        wrong: (end.number != 0).then(|| stopped(&end, list)),
-    }
-}
-
-/// The store drawn before and after each of the lifts that are done.
-fn each_lift(start: &Store, list: &[u8], count: usize) -> Vec<String> {
-    let mut store = start.clone();
-    let mut shown = vec![format!("start\n{}", draw::store(&store, &[]))];
-    for done in 0..count {
-        let carried = play::lift(&mut store, list[done]).expect("a lift that is done");
-        shown.push(draw_lift(&store, list, done, carried));
-    }
-    shown
-}
-
-/// A store after a lift, with the cassette carried.
-fn draw_lift(store: &Store, list: &[u8], done: usize, carried: Carried) -> String {
-    let (left, entered) = play::shafts_of(list[done]);
-    let Carried { cassette, row } = carried;
-    format!(
-        "lift {} of {}: {cassette} from shaft {left} to shaft {entered}, row {row}\n{}",
-        done + 1,
-        list.len(),
-        draw::store(store, &[cassette])
-    )
-}
-
-/// How often each cassette of the store was carried, a line for each, rising by number.
-fn carries(end: &Replayed) -> String {
-    let times = |cassette: u8| end.carries[usize::from(cassette)];
-    let line = |cassette| format!("{cassette:>5}: {}\n", times(cassette));
-    let lines: String = end.store.sorted().into_iter().map(line).collect();
-    format!("times carried\n{lines}")
-}
-
-/// What to say of a replay that stopped.
-fn stopped(end: &Replayed, list: &[u8]) -> String {
-    format!(
-        "lift {} of {}, {}, is refused {}, {}, in {}",
-        end.count + 1,
-        list.len(),
-        text::write_lift(list[end.count]),
-        end.number,
-        meaning(end.number),
-        text::write(&end.store)
-    )
-}
-
-fn leads(start: &Store, goal: &Store, list: &[u8]) -> Result<String, String> {
-    let end = play::replay(start, list);
-    if end.number != 0 {
-        return Err(stopped(&end, list));
-    }
-    if end.store != *goal {
-        let (reached, goal) = (text::write(&end.store), text::write(goal));
-        return Err(format!("the list leads to {reached}, not to {goal}"));
-    }
-    Ok(format!("{} lifts lead to the goal\n", end.count))
 }
 
 /// What a number says of an image, of a lift or of an order.
@@ -259,7 +187,10 @@ mod tests {
         assert!(parts[1].contains("row  1 |    1 |   *2 |    3 |"));
         assert!(parts[2].starts_with("lift 2 of 2: 3 from shaft 2 to shaft 0, row 2\n"));
         assert!(parts[2].contains("row  2 |   *3 |      |      |"));
-        assert_eq!(parts[3], "times carried\n    1: 0\n    2: 1\n    3: 1\n");
+        assert_eq!(
+            parts[3],
+            "times carried, 2 of 2 lifts done\n    1: 0\n    2: 1\n    3: 1\n"
+        );
     }
 
     #[test]
@@ -268,7 +199,7 @@ mod tests {
         let shown = prints(&["play", "--end", "--bytes", EXAMPLE, &list.0]);
         let end = text::read("3x2: [1 3] [2] []").unwrap();
         let drawn = draw::store(&end, &[]);
-        let carries = "times carried\n    1: 0\n    2: 3\n    3: 1\n";
+        let carries = "times carried, 4 of 4 lifts done\n    1: 0\n    2: 3\n    3: 1\n";
         assert_eq!(shown, format!("lifts done: 4\n{drawn}\n{carries}"));
     }
 
@@ -277,10 +208,12 @@ mod tests {
         let list = Scratch::holding("rise", b"lifts 2\n0>2\n1>2\n");
         let store = "3x2: [255] [10] []";
         let shown = prints(&["play", "--end", store, &list.0]);
-        assert!(shown.ends_with("\n\ntimes carried\n   10: 1\n  255: 1\n"));
+        assert!(shown.ends_with("\n\ntimes carried, 2 of 2 lifts done\n   10: 1\n  255: 1\n"));
         let none = Scratch::holding("none", b"lifts 0\n");
         let shown = prints(&["play", store, &none.0]);
-        assert!(shown.ends_with("\n\ntimes carried\n   10: 0\n  255: 0\n"));
+        assert!(shown.ends_with("\n\ntimes carried, 0 of 0 lifts done\n   10: 0\n  255: 0\n"));
+        let shown = prints(&["play", "2x1: [] []", &none.0]);
+        assert!(shown.ends_with("\n\ntimes carried, 0 of 0 lifts done\nno cassette\n"));
     }
 
     #[test]
@@ -288,7 +221,7 @@ mod tests {
         let list = Scratch::holding("stops", b"lifts 3\n0>1\n1>1\n0>1\n");
         let wrong = "lift 2 of 3, 1>1, is refused 11, a shaft that is not there, \
                      or one shaft twice, in 3x2: [1] [2] [3]";
-        let carries = "\n\ntimes carried\n    1: 0\n    2: 1\n    3: 0\n";
+        let carries = "\n\ntimes carried, 1 of 3 lifts done\n    1: 0\n    2: 1\n    3: 0\n";
         let said = run(&["play", EXAMPLE, &list.0]).unwrap();
         assert_eq!(said.wrong.as_deref(), Some(wrong));
         assert_eq!(said.text.matches("shaft  ").count(), 2);

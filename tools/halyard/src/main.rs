@@ -3,6 +3,7 @@
 mod commands;
 mod depth;
 mod draw;
+mod played;
 
 use std::io::Write;
 use std::process::ExitCode;

@@ -6,13 +6,13 @@ use Rattle.carry_cases.proofs.say_slots.Statement.{statement}
 use Rattle.carry_cases.proofs.say_slots.Tie as tie
 
 abbrev Inv-loop : tie.InvT-loop
-Inv-loop slots carries i₀ i = i ≤ length slots
+Inv-loop replayed slots carries i₀ i = i ≤ length slots
 
 abbrev μ-loop : tie.MeasureT-loop
-μ-loop slots carries i₀ i = length slots - i
+μ-loop replayed slots carries i₀ i = length slots - i
 
 pub say-slots-spec : {M : Type 1} → statement M
 say-slots-spec =
     tie.close
-    (tie.spec Inv-loop μ-loop (λ c. search needs) (λ c. search needs) (λ c. search needs) (λ c. search needs) (λ c κs. search needs)
+    (tie.spec Inv-loop μ-loop (λ c. search needs) (λ c. search needs) (λ c. search needs) (λ c. search needs) (λ c. search needs) (λ c κs. search needs) (λ c κs. search needs)
     (λ c. search needs) (λ c. search needs) (λ c. search needs) (λ c. search needs))
