@@ -1,5 +1,5 @@
 // Replays the list in the file list on the store in store.img, both in the current directory, and prints how often each cassette of the store
-// reached was carried, how often all of them together, and what the same lifts tell one by one. Held to the file stdout; tests/outside
+// reached was carried, by the count beside its slot and by its number, and what the same lifts tell one by one. Held to the file stdout; tests/outside
 // compares it with lifts of its own.
 use libc::STDOUT_FILENO;
 use lift_bytes::entered_of;
@@ -52,33 +52,12 @@ fn say_slots(replayed: Replayed, slots: &[u8], carries: &[usize]) {
     }
 }
 
-// How often a cassette was carried, by its number; an empty slot holds none.
-fn times_of(replayed: Replayed, c: u8) -> u64 {
-    if c == 0 {
-        return 0;
-    }
-    replayed.carries_of(c) as u64
-}
-
-// How often the cassettes of the slots were carried, all together.
-fn all_carries(replayed: Replayed, slots: &[u8]) -> u64 {
-    let mut sum: u64 = 0;
-    let mut i: usize = 0;
-    while i < slots.len() {
-        sum = wrapping_add_u64(sum, times_of(replayed, slots[i]));
-        i += 1;
-    }
-    sum
-}
-
-// The cassettes of the store reached with their counts, and how often they were carried all together.
+// The cassettes of the store reached, with their counts.
 fn say_counts(replayed: Replayed) {
     let reached = replayed.store;
     let slots = reached.slots;
     let carries = replayed.carries;
     say_slots(replayed, &slots, &carries);
-    say(b"sum ", all_carries(replayed, &slots));
-    io::write_all(STDOUT_FILENO, b"\n");
 }
 
 // The lifts of a list, each as a single lift, also behind one that is refused: all cassettes told, added up, and all rows.

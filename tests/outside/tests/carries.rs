@@ -66,7 +66,7 @@ fn expected(start: &Store, list: &[u8], end: &Replayed) -> String {
     let lines: String = end.store.cassettes().into_iter().map(line).collect();
     let (number, count) = (end.number, end.count);
     let (cassettes, rows) = told(start, list);
-    format!("number {number}\nlifts {count}\n{lines}sum {count}\ntold {cassettes} {rows}\n")
+    format!("number {number}\nlifts {count}\n{lines}told {cassettes} {rows}\n")
 }
 
 /// The cassettes that the lifts of a list tell, added up, and the rows. One that is refused tells nothing, and the next is tried.
@@ -106,13 +106,13 @@ fn bytes(store: &str) -> Vec<u8> {
 #[test]
 fn three_lifts_of_document_01() {
     let store = bytes("3x1: [1] [2] []");
-    let wanted = "number 0\nlifts 3\n2 1 1\n1 2 2\nsum 3\ntold 4 3\n";
+    let wanted = "number 0\nlifts 3\n2 1 1\n1 2 2\ntold 4 3\n";
     assert_eq!(printed(&store, &[0x02, 0x10, 0x21]), wanted);
-    let nothing = "number 0\nlifts 0\n1 0 0\n2 0 0\nsum 0\ntold 0 0\n";
+    let nothing = "number 0\nlifts 0\n1 0 0\n2 0 0\ntold 0 0\n";
     assert_eq!(printed(&store, &[]), nothing);
     assert_eq!(
         printed(&bytes("3x3: [] [] []"), &[]),
-        "number 0\nlifts 0\nsum 0\ntold 0 0\n"
+        "number 0\nlifts 0\ntold 0 0\n"
     );
 }
 
@@ -121,14 +121,14 @@ fn three_lifts_of_document_01() {
 fn lists_that_stop() {
     let store = bytes("3x2: [1 2] [] [3]");
     let stopped = |list: &[u8]| printed(&store, list);
-    let no_lift = "number 11\nlifts 2\n1 0 0\n3 1 1\n2 1 1\nsum 2\ntold 7 4\n";
+    let no_lift = "number 11\nlifts 2\n1 0 0\n3 1 1\n2 1 1\ntold 7 4\n";
     assert_eq!(stopped(&[0x01, 0x20, 0x11, 0x12]), no_lift);
     assert_eq!(stopped(&[0x01, 0x20, 0x13, 0x12]), no_lift);
-    let empty = "number 13\nlifts 4\n1 0 0\n3 1 1\n2 3 3\nsum 4\ntold 11 7\n";
+    let empty = "number 13\nlifts 4\n1 0 0\n3 1 1\n2 3 3\ntold 11 7\n";
     assert_eq!(stopped(&[0x01, 0x10, 0x01, 0x20, 0x21, 0x12]), empty);
-    let full = "number 14\nlifts 2\n1 0 0\n2 2 2\n3 0 0\nsum 2\ntold 7 4\n";
+    let full = "number 14\nlifts 2\n1 0 0\n2 2 2\n3 0 0\ntold 7 4\n";
     assert_eq!(stopped(&[0x01, 0x10, 0x20, 0x21]), full);
-    let at_once = "number 14\nlifts 0\n1 0 0\n2 0 0\n3 0 0\nsum 0\ntold 2 1\n";
+    let at_once = "number 14\nlifts 0\n1 0 0\n2 0 0\n3 0 0\ntold 2 1\n";
     assert_eq!(stopped(&[0x20, 0x01]), at_once);
 }
 
@@ -193,7 +193,7 @@ fn longest_lists() {
 #[test]
 fn one_cassette_all_the_time() {
     let list = [0x01, 0x10].repeat(MOST_LIFTS / 2);
-    let wanted = "number 0\nlifts 20000\n7 20000 20000\nsum 20000\ntold 140000 20000\n";
+    let wanted = "number 0\nlifts 20000\n7 20000 20000\ntold 140000 20000\n";
     assert_eq!(printed(&bytes("2x1: [7] []"), &list), wanted);
 }
 
