@@ -10,7 +10,6 @@ use lib.Dec.{eqb}
 use lib.ListN.{length, getD}
 use lib.Seq.{ext-getD}
 use Rattle.stacks.specs.Count.{count}
-use Rattle.stacks.proofs.Sums.{sum-same, sum-differ-one}
 use Rattle.marks.specs.Cassettes.{given}
 use Rattle.lifts.specs.Lifting.{slotCount}
 use Rattle.store.specs.declared.Store.{Store}
@@ -21,7 +20,7 @@ use Rattle.replay.specs.declared.Played.{Played}
 use Rattle.replay.specs.declared.Replayed.{Replayed}
 use Rattle.replay.specs.Promises.{carriesOf, PlayIs, ReplayIs}
 use Rattle.replay.specs.Replaying.{Outcome, replayFrom, replay, timesCarried}
-use Rattle.replay.proofs.Carries.{count-beside}
+use Rattle.replay.proofs.Carries.{sum-alone, count-beside}
 use Rattle.replay.proofs.Playing.{replay-played}
 use Rattle.replay.proofs.Replays.{replay-accepted, replay-refuses, from-reaches}
 use Rattle.replay.proofs.Times.{never-zero}
@@ -31,13 +30,9 @@ alone : (slots carries : List ℕ) (i : ℕ) → i < slotCount → ((j : ℕ) �
 unfolding carriesOf
 alone slots carries i h f =
     let c = getD slots i 0 in
-    omega (
-      arith,
-      sum-differ-one slotCount (λ j. given (eqb c (getD slots j 0)) (getD carries j 0)) (λ j. 0) i h
-          (λ j l n. ap (λ b. given b (getD carries j 0)) (ne-eqb c (getD slots j 0) (λ e. n (f j l (sym e))))),
-      sum-same slotCount 0,
-      ap (λ b. given b (getD carries i 0)) (eq-eqb c c refl),
-    )
+    sum-alone slotCount (λ j. given (eqb c (getD slots j 0)) (getD carries j 0)) i h
+    (λ j l n. ap (λ b. given b (getD carries j 0)) (ne-eqb c (getD slots j 0) (λ e. n (f j l (sym e)))))
+    ∙ ap (λ b. given b (getD carries i 0)) (eq-eqb c c refl)
 
 -- the count beside each slot, by how often each number was carried
 module _ (s : Store) (bs carries : List ℕ) (o : (c : ℕ) → carriesOf c (replay s bs .reached .slots) carries ≡ timesCarried (replay s bs) c) where

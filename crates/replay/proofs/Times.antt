@@ -8,7 +8,7 @@ use native.Mathlib.Omega.{arith}
 use lib.Dec.{eqb}
 use lib.ListN.{length}
 use Rattle.stacks.specs.Count.{one, count, sum}
-use Rattle.stacks.proofs.Sums.{sum-equal, sum-add, sum-same, sum-differ-one}
+use Rattle.stacks.proofs.Sums.{sum-equal, sum-add, sum-same}
 use Rattle.marks.specs.Cassettes.{numbers}
 use Rattle.lifts.specs.Bytes.{left, entered}
 use Rattle.store.specs.declared.Store.{Store}
@@ -23,6 +23,7 @@ use Rattle.reach.proofs.Lasting.{leads-accepted}
 use Rattle.replay.specs.declared.Replayed.{Replayed}
 use Rattle.replay.specs.Promises.{carriesOf, ReplayIs}
 use Rattle.replay.specs.Replaying.{replayFrom, replay, timesCarried}
+use Rattle.replay.proofs.Carries.{sum-alone}
 use Rattle.replay.proofs.Replays.{of-any-store, of-each-replay}
 
 -- a lift of an accepted store carries a cassette
@@ -38,13 +39,7 @@ one-most false = omega arith
 
 -- one number alone is x
 sum-one : (n x : ℕ) → x < n → sum n (λ c. one (eqb c x)) ≡ 1
-sum-one n x h =
-    omega (
-      arith,
-      sum-differ-one n (λ c. one (eqb c x)) (λ c. 0) x h (λ c i d. ap one (ne-eqb c x d)),
-      sum-same n 0,
-      ap one (eq-eqb x x refl),
-    )
+sum-one n x h = sum-alone n (λ c. one (eqb c x)) x h (λ c i d. ap one (ne-eqb c x d)) ∙ ap one (eq-eqb x x refl)
 
 -- each lift counts once
 total-from : (s : Store) (bs : List ℕ) → Shaped s → sum numbers (timesCarried (replayFrom s bs)) ≡ replayFrom s bs .count
