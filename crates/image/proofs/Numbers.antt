@@ -1,74 +1,75 @@
--- A reading gives one of the numbers 0 to 7 (document 01, "Refused because of the input"), for every list of bytes.
-use mathlib.Core.Bool.{Bool, true, false, not, _&&_}
+-- Every list of bytes gives one of the numbers 0 to 5 and 7 (document 01, "Refused because of the input"; request 3/13).
+use mathlib.Core.Bool.{Bool, not}
 use mathlib.Core.List.{List, [], _∷_, _++_}
+use mathlib.Core.Logic.{_⊎_, inl, inr, ⊎-elim}
+use mathlib.Core.Path.{_≡_, refl, sym, subst}
 use Prim.Native.Nat.{ℕ, zero, suc, _+_, _≤_}
 use native.Mathlib.Omega.{arith}
 use lib.Dec.{ltb, eqb}
-use lib.ListN.{length}
 use Rattle.bits.specs.declared.Field.{Field}
 use Rattle.bits.specs.declared.Field.the-variants.{Value, Missing}
 use Rattle.bits.specs.Fields.{bitsOf, nextField}
-use Rattle.stacks.specs.Count.{count}
-use Rattle.marks.specs.Cassettes.{mayRepeat, given, first, cassetteFault}
+use Rattle.marks.specs.Cassettes.{given, cassetteFault}
+use Rattle.marks.proofs.Faulted.{given-either}
+use Rattle.marks.proofs.Takes.{cassette-either}
 use Rattle.store.specs.declared.Store.{Store}
 use Rattle.store.specs.Slots.{depth}
 use Rattle.image.specs.Image.{formWidth, frameWidth, heightWidth, cassetteWidth}
-use Rattle.image.specs.Reading.{Reading, emptyStore, unless, Rest, fromField, next, raised, placed, takeCassette, readRow, readRows, readColumn, readShaft, readShafts, padding, endFault, finish, readBody, readDepth, readSize, readForm, readImage}
+use Rattle.image.specs.Reading.{Reading, emptyStore, unless, Rest, fromField, next, raised, placed, takeCassette, readRow, readRows, readColumn, readShaft, readShafts, padding, readImage}
+use Rattle.image.proofs.NeverSix.{endWithoutSix, without-six}
 
-record Few (o : Reading) : Type 0 where
-  few : o .number ≤ 7
+-- one of these numbers
+abbrev pub Given : ℕ → Type 0
+Given k = (k ≤ 5) ⊎ (k ≡ 7)
 
-given-few : (b : Bool) (k : ℕ) → k ≤ 7 → given b k ≤ 7
-given-few true k h = h
-given-few false k h = omega arith
+low : {k : ℕ} → k ≤ 5 → Given k
+low = inl
 
-pub first-few : (a b : ℕ) → a ≤ 7 → b ≤ 7 → first a b ≤ 7
-first-few zero b h i = i
-first-few (suc a) b h i = h
+record Gives (o : Reading) : Type 0 where
+  number : Given (o .number)
 
-unless-few : (k : ℕ) (o : Reading) → k ≤ 7 → Few o → Few (unless k o)
-unless-few zero o h i = i
-unless-few (suc k) o h i = record { few = h }
+unless-gives : (k : ℕ) (o : Reading) → Given k → Gives o → Gives (unless k o)
+unless-gives zero o p q = q
+unless-gives (suc k) o p q = record { number = p }
 
-field-few : (f : Field) (c : ℕ → Reading) → ((v : ℕ) → Few (c v)) → Few (fromField f c)
-field-few (Value v) c h = h v
-field-few Missing c h = record { few = omega arith }
+field-gives : (f : Field) (c : ℕ → Reading) → ((v : ℕ) → Gives (c v)) → Gives (fromField f c)
+field-gives (Value v) c h = h v
+field-gives Missing c h = record { number = low (omega arith) }
 
-next-few : (w : ℕ) (l : List Bool) (c : ℕ → List Bool → Reading) → ((v : ℕ) (r : List Bool) → Few (c v r)) → Few (next w l c)
-next-few w l c h = field-few (nextField l w) _ (λ v. h v _)
-
-cassette-few : (d : List ℕ) (v : ℕ) → cassetteFault d v ≤ 7
-unfolding cassetteFault
-cassette-few d v = first-few _ _ (given-few (eqb v 0) 4 (omega arith)) (given-few (not (mayRepeat v) && ltb 0 (count v d)) 5 (omega arith))
+next-gives : (w : ℕ) (l : List Bool) (c : ℕ → List Bool → Reading) → ((v : ℕ) (r : List Bool) → Gives (c v r)) → Gives (next w l c)
+next-gives w l c h = field-gives (nextField l w) _ (λ v. h v _)
 
 -- whatever is read next gives such a number
-abbrev FewAfter : Rest → Type 0
-FewAfter c = (b : List ℕ) (s : Store) (l : List Bool) → Few (c b s l)
+abbrev GivesAfter : Rest → Type 0
+GivesAfter c = (b : List ℕ) (s : Store) (l : List Bool) → Gives (c b s l)
 
-rows-few : (w x k : ℕ) (c : Rest) → FewAfter c → FewAfter (λ b s l. readRows w x k b s l c)
+rows-give : (w x k : ℕ) (c : Rest) → GivesAfter c → GivesAfter (λ b s l. readRows w x k b s l c)
 unfolding readRows
-rows-few w x zero c h b s l = h b s l
-rows-few w x (suc k) c h b s l =
-    rows-few w x k (λ d u r. readRow w x k d u r c)
-    (λ d u r. next-few w r (λ v q. takeCassette x k v d u q c) (λ v q.
-    unless-few (cassetteFault d v) _ (cassette-few d v) (h (d ++ (v ∷ [])) (placed u x k v) q))) b s l
+rows-give w x zero c h b s l = h b s l
+rows-give w x (suc k) c h b s l =
+    rows-give w x k (λ d u r. readRow w x k d u r c)
+    (λ d u r. next-gives w r (λ v q. takeCassette x k v d u q c) (λ v q.
+    unless-gives (cassetteFault d v) _ (cassette-either d v Given (low (omega arith)) (low (omega arith)) (low (omega arith))) (h (d ++ (v ∷ [])) (placed u x k v) q))) b s l
 
-shafts-few : (x : ℕ) (c : Rest) → FewAfter c → FewAfter (λ b s l. readShafts x b s l c)
+shafts-give : (x : ℕ) (c : Rest) → GivesAfter c → GivesAfter (λ b s l. readShafts x b s l c)
 unfolding readShafts readColumn
-shafts-few zero c h b s l = h b s l
-shafts-few (suc x) c h b s l =
-    shafts-few x (λ d u r. readShaft x d u r c)
-    (λ d u r. next-few heightWidth r (λ v q. readColumn x v d u q c) (λ v q.
-    unless-few (given (ltb (depth u x) v) 3) _ (given-few (ltb (depth u x) v) 3 (omega arith)) (rows-few cassetteWidth x v c h d (raised u x v) q))) b s l
+shafts-give zero c h b s l = h b s l
+shafts-give (suc x) c h b s l =
+    shafts-give x (λ d u r. readShaft x d u r c)
+    (λ d u r. next-gives heightWidth r (λ v q. readColumn x v d u q c) (λ v q.
+    unless-gives (given (ltb (depth u x) v) 3) _ (given-either Given (ltb (depth u x) v) 3 (low (omega arith)) (low (omega arith))) (rows-give cassetteWidth x v c h d (raised u x v) q))) b s l
 
-finish-few : FewAfter finish
-unfolding finish
-finish-few b s l =
-    unless-few (endFault b l) _ (first-few _ _ (given-few (ltb 255 (length b)) 6 (omega arith)) (given-few (not (padding l)) 7 (omega arith))) (record { few = omega arith })
+end-gives : GivesAfter endWithoutSix
+end-gives b s l = unless-gives (given (not (padding l)) 7) _ (given-either Given (not (padding l)) 7 (low (omega arith)) (inr refl)) (record { number = low (omega arith) })
+
+pub number-given : (bytes : List ℕ) → Given (readImage bytes .number)
+number-given bytes =
+    subst Gives (sym (without-six bytes))
+    (next-gives formWidth (bitsOf bytes) _ (λ f l. unless-gives (given (not (eqb f 0)) 1) _ (given-either Given (not (eqb f 0)) 1 (low (omega arith)) (low (omega arith)))
+    (next-gives frameWidth l _ (λ m r. next-gives frameWidth r _ (λ h q. shafts-give (m + 1) endWithoutSix end-gives [] (emptyStore (m + 1) (h + 1)) q))))) .number
+
+pub never-six : (bytes : List ℕ) → readImage bytes .number ≡ 6 → ⊥
+never-six bytes e = ⊎-elim (λ h. omega arith) (λ h. omega arith) (number-given bytes)
 
 pub number-few : (bytes : List ℕ) → readImage bytes .number ≤ 7
-unfolding readImage readBody
-number-few bytes =
-    (next-few formWidth (bitsOf bytes) readForm (λ f l.
-    unless-few (given (not (eqb f 0)) 1) (readSize l) (given-few (not (eqb f 0)) 1 (omega arith))
-    (next-few frameWidth l readDepth (λ m r. next-few frameWidth r (λ h q. readBody (emptyStore (m + 1) (h + 1)) q) (λ h q. shafts-few (m + 1) finish finish-few [] (emptyStore (m + 1) (h + 1)) q))))) .few
+number-few bytes = ⊎-elim (λ h. omega arith) (λ h. omega arith) (number-given bytes)

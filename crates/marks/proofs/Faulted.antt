@@ -19,6 +19,16 @@ pub first-stays : (a b : ℕ) → (a ≡ 0 → ⊥) → first a b ≡ a
 first-stays zero b n = absurd (n refl)
 first-stays (suc a) b n = refl
 
+-- what holds of both faults holds of the first
+pub first-either : (P : ℕ → Type 0) (a b : ℕ) → P a → P b → P (first a b)
+first-either P zero b p q = q
+first-either P (suc a) b p q = p
+
+-- what holds of a number, and of none, holds of the number under a test
+pub given-either : (P : ℕ → Type 0) (t : Bool) (k : ℕ) → P 0 → P k → P (given t k)
+given-either P true k p q = q
+given-either P false k p q = p
+
 pub given-none : (t : Bool) (k : ℕ) → given t (suc k) ≡ 0 → t ≡ false
 given-none true k e = absurd (omega arith)
 given-none false k e = refl

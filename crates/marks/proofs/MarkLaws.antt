@@ -12,6 +12,7 @@ use lib.Dec.{eqb}
 use lib.ListN.{length, getD, take, set, replicate, length-set, length-replicate}
 use lib.Seq.{getD-set-same, getD-set-other}
 use Rattle.stacks.specs.Count.{count, one}
+use Rattle.stacks.proofs.Distinct.{Below}
 use Rattle.marks.specs.Marking.{marked, withMark, withMarks, markCount}
 use Rattle.marks.proofs.Words.{set-bit-same, set-bit-other, set-bit-ones}
 
@@ -86,10 +87,6 @@ count-set (x ∷ w) (suc i) v h e = omega (arith, count-set w i v (omega arith) 
 mark-counts : (w : List ℕ) (c : ℕ) → c < 64 * length w → marked w c ≡ 0 → markCount (withMark w c) ≡ markCount w + 1
 unfolding marked withMark
 mark-counts w c h e = count-set w (c / 64) _ (omega arith) (set-bit-ones (getD w (c / 64) 0) (c % 64) e)
-
--- every cassette of a list is below a bound
-abbrev pub Below : ℕ → List ℕ → Type 0
-Below n l = (c : ℕ) → 0 < count c l → c < n
 
 -- "n is the number of marks"
 counts-all : (n : ℕ) (w l : List ℕ) → n ≤ 64 * length w → Below n l → ((c : ℕ) → c < n → marked w c + count c l ≤ 1) → markCount (withMarks w l) ≡ markCount w + length l

@@ -10,11 +10,12 @@ use lib.Dec.{eqb, ltb}
 use lib.ListN.{length}
 use Rattle.stacks.specs.Count.{count, one}
 use Rattle.stacks.proofs.Counts.{count-append}
+use Rattle.stacks.proofs.Distinct.{distinct-few}
 use Rattle.marks.specs.declared.Taken.the-variants.{Added, NumberZero, Twice}
 use Rattle.marks.specs.Cassettes.{numbers, mayRepeat, given, cassetteFault}
 use Rattle.marks.specs.Marking.{markWords, noMarks, marked, withMark, withMarks, markCount, Marked}
 use Rattle.marks.specs.Taking.{TakenIs}
-use Rattle.marks.proofs.Faulted.{first-none, given-none, both-true}
+use Rattle.marks.proofs.Faulted.{first-none, first-either, given-either, given-none, both-true}
 use Rattle.marks.proofs.MarkLaws.{with-more, marked-exactly, count-of}
 
 -- "No cassette stands twice in a store."
@@ -24,6 +25,11 @@ none-repeats c = refl
 
 -- the fault of one cassette more, by cases
 module _ (l : List ℕ) (c : ℕ) where
+  pub cassette-either : (P : ℕ → Type 0) → P 0 → P 4 → P 5 → P (cassetteFault l c)
+  unfolding cassetteFault
+  cassette-either P none four five =
+      first-either P _ _ (given-either P (eqb c 0) 4 none four) (given-either P (not (mayRepeat c) && ltb 0 (count c l)) 5 none five)
+
   pub cassette-taken : (c ≡ 0 → ⊥) → (mayRepeat c ≡ false → count c l ≡ 0) → cassetteFault l c ≡ 0
   unfolding cassetteFault
   cassette-taken n h = simp (ne-eqb c 0 n) (by-repeat (mayRepeat c) refl)
@@ -56,7 +62,7 @@ unfolding withMarks count
 nothing-marked = record { marks = refl; below = λ c h. absurd (omega arith); once = λ c r. omega arith }
 
 -- one cassette more, that stood nowhere unless it may
-marked-more : (words l : List ℕ) (c : ℕ) → Marked words l → c < numbers → (mayRepeat c ≡ false → count c l ≡ 0) → Marked (withMark words c) (l ++ (c ∷ []))
+pub marked-more : (words l : List ℕ) (c : ℕ) → Marked words l → c < numbers → (mayRepeat c ≡ false → count c l ≡ 0) → Marked (withMark words c) (l ++ (c ∷ []))
 unfolding count
 marked-more words l c m h z = record {
   marks = ap (λ (w : List ℕ). withMark w c) (m .marks) ∙ sym (with-more _ l c);
@@ -92,7 +98,7 @@ module _ (words : List ℕ) (c : ℕ) where
         record {
           number = sym (simp (ne-eqb c 0 n, t));
           words-are = refl;
-          fault = λ before m. sym (simp (ne-eqb c 0 n, none-repeats c, lt-ltb 0 (count c before) (mark-found words before c m h (p .1))));
+          fault = λ before m. sym (simp (ne-eqb c 0 n, p .0, lt-ltb 0 (count c before) (mark-found words before c m h (p .1))));
           marks = λ before m. refl;
         }
 
@@ -110,3 +116,7 @@ module _ (words : List ℕ) (c : ℕ) where
 -- "n is the number of marks"
 pub marks-counted : (words l : List ℕ) → Marked words l → markCount words ≡ length l
 marks-counted words l m = ap markCount (m .marks) ∙ count-of markWords l (m .below) (λ c. m .once c (none-repeats c))
+
+-- "Cassette numbers are distinct and lie in 1 to 255, so a 256th cassette has already given 4 or 5." (request 3/13)
+pub marked-few : (words l : List ℕ) → Marked words l → count 0 l ≡ 0 → length l < numbers
+marked-few words l m z = distinct-few numbers l (omega arith) (m .below) z (λ c. m .once c (none-repeats c))

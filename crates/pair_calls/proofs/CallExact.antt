@@ -16,13 +16,14 @@ use Rattle.reachable.proofs.Exact.{one-reach, yes-exactly, no-exactly, zero-is-
 use Rattle.plans.specs.Numbers.{planNumber}
 use Rattle.plans.specs.Promises.{PlanSays, Lists}
 use Rattle.plans.proofs.PlanExact.{listed-list, zero-is-listed, fifteen-is-unreachable, number-most}
-use Rattle.image.proofs.Numbers.{number-few, first-few}
+use Rattle.marks.proofs.Faulted.{first-either}
+use Rattle.image.proofs.Numbers.{number-few}
 use Rattle.calls.specs.Shared.{answerOf, storeIn, readFault, readFaults}
 use Rattle.pair_calls.specs.PairCalls.{ReachCallIs, PlanGives, PlanCallIs}
 
 -- faults of reading are 1 to 7
 faults-few : (a b : List ℕ) → readFaults a b ≤ 7
-faults-few a b = first-few (readFault a) (readFault b) (number-few a) (number-few b)
+faults-few a b = first-either (λ k. k ≤ 7) (readFault a) (readFault b) (number-few a) (number-few b)
 
 module _ {a b : List ℕ} {r : ℕ} (p : ReachCallIs a b r) where
   -- a number that no fault of reading has is the answer on the stores

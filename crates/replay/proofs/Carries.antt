@@ -8,8 +8,8 @@ use native.Mathlib.Omega.{arith}
 use lib.Dec.{eqb}
 use lib.ListN.{length, getD, set, length-set}
 use lib.Seq.{getD-set-same, getD-set-other}
-use Rattle.stacks.specs.Count.{one, sum}
-use Rattle.stacks.proofs.Sums.{sum-equal, sum-same, term-le-sum, sum-differ-one, sum-differ-two}
+use Rattle.stacks.specs.Count.{one}
+use Rattle.stacks.proofs.Sums.{sum-equal, sum-same, term-le-sum, sum-differ-two}
 use Rattle.marks.specs.Cassettes.{given}
 use Rattle.lifts.specs.Lifting.{mostRows, slotCount}
 use Rattle.lifts.proofs.Moving.{shown-place, slots-after}
@@ -19,10 +19,6 @@ use Rattle.store.specs.Slots.{height, topOf}
 use Rattle.store.specs.Sound.{Shaped}
 use Rattle.replay.specs.Counting.{NoneCounted, movedOn}
 use Rattle.replay.specs.Promises.{carriesOf}
-
--- the sum of what is 0 but at one place is what it is there
-pub sum-alone : (n : ℕ) (f : ℕ → ℕ) (a : ℕ) → a < n → ((i : ℕ) → i < n → (i ≡ a → ⊥) → f i ≡ 0) → sum n f ≡ f a
-sum-alone n f a p h = omega (arith, sum-differ-one n f (λ i. 0) a p h, sum-same n 0)
 
 given-zero : (b : Bool) (k : ℕ) → k ≡ 0 → given b k ≡ 0
 given-zero true k e = e

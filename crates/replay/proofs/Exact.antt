@@ -10,6 +10,7 @@ use lib.Dec.{eqb}
 use lib.ListN.{length, getD}
 use lib.Seq.{ext-getD}
 use Rattle.stacks.specs.Count.{count}
+use Rattle.stacks.proofs.Sums.{sum-alone}
 use Rattle.marks.specs.Cassettes.{given}
 use Rattle.lifts.specs.Lifting.{slotCount}
 use Rattle.store.specs.declared.Store.{Store}
@@ -20,7 +21,7 @@ use Rattle.replay.specs.declared.Played.{Played}
 use Rattle.replay.specs.declared.Replayed.{Replayed}
 use Rattle.replay.specs.Promises.{carriesOf, PlayIs, ReplayIs}
 use Rattle.replay.specs.Replaying.{Outcome, replayFrom, replay, timesCarried}
-use Rattle.replay.proofs.Carries.{sum-alone, count-beside}
+use Rattle.replay.proofs.Carries.{count-beside}
 use Rattle.replay.proofs.Playing.{replay-played}
 use Rattle.replay.proofs.Replays.{replay-accepted, replay-refuses, from-reaches}
 use Rattle.replay.proofs.Times.{never-zero}

@@ -1,14 +1,15 @@
 -- How often a replay carries each cassette (request 2/13): the number 0 never, and all numbers together as often as lifts are done.
-use borrow.Author.Tests.{eq-eqb, ne-eqb}
+use borrow.Author.Tests.{ne-eqb}
 use mathlib.Core.Bool.{Bool, true, false}
 use mathlib.Core.List.{List}
 use mathlib.Core.Path.{_≡_, refl, sym, ap, _∙_}
-use Prim.Native.Nat.{ℕ, _-_, _%_, _^_, _≤_, _<_}
+use Prim.Native.Nat.{ℕ, _%_, _^_, _≤_, _<_}
 use native.Mathlib.Omega.{arith}
 use lib.Dec.{eqb}
 use lib.ListN.{length}
 use Rattle.stacks.specs.Count.{one, count, sum}
-use Rattle.stacks.proofs.Sums.{sum-equal, sum-add, sum-same}
+use Rattle.stacks.proofs.Distinct.{counts-more}
+use Rattle.stacks.proofs.Sums.{sum-equal, sum-same}
 use Rattle.marks.specs.Cassettes.{numbers}
 use Rattle.lifts.specs.Bytes.{left, entered}
 use Rattle.store.specs.declared.Store.{Store}
@@ -23,7 +24,6 @@ use Rattle.reach.proofs.Lasting.{leads-accepted}
 use Rattle.replay.specs.declared.Replayed.{Replayed}
 use Rattle.replay.specs.Promises.{carriesOf, ReplayIs}
 use Rattle.replay.specs.Replaying.{replayFrom, replay, timesCarried}
-use Rattle.replay.proofs.Carries.{sum-alone}
 use Rattle.replay.proofs.Replays.{of-any-store, of-each-replay}
 
 -- a lift of an accepted store carries a cassette
@@ -37,10 +37,6 @@ one-most : (b : Bool) → one b ≤ 1
 one-most true = omega arith
 one-most false = omega arith
 
--- one number alone is x
-sum-one : (n x : ℕ) → x < n → sum n (λ c. one (eqb c x)) ≡ 1
-sum-one n x h = sum-alone n (λ c. one (eqb c x)) x h (λ c i d. ap one (ne-eqb c x d)) ∙ ap one (eq-eqb x x refl)
-
 -- each lift counts once
 total-from : (s : Store) (bs : List ℕ) → Shaped s → sum numbers (timesCarried (replayFrom s bs)) ≡ replayFrom s bs .count
 unfolding count
@@ -48,12 +44,7 @@ total-from =
     of-each-replay (λ s bs o. Shaped s → sum numbers (timesCarried o) ≡ o .count) (λ s bs k p. sum-same numbers 0)
     (λ s b bs q o r p.
     let x = topOf s (left b) in
-    omega (
-      arith,
-      sum-add numbers (λ c. one (eqb c x)) (timesCarried o),
-      sum-one numbers x (slot-numbered s (left b) (height s (left b)) (p .numbered)),
-      r (lifted-shaped s (left b) (entered b) p q),
-    ))
+    omega (arith, counts-more numbers x (o .carried) (slot-numbered s (left b) (height s (left b)) (p .numbered)), r (lifted-shaped s (left b) (entered b) p q)))
 
 -- and no cassette is carried more often than there are lifts in the list
 times-few : (s : Store) (bs : List ℕ) (c : ℕ) → timesCarried (replayFrom s bs) c ≤ length bs

@@ -1,6 +1,7 @@
 pub mod Bottoms
 pub mod Counts
 pub mod Deciding
+pub mod Distinct
 pub mod Floors
 pub mod Kept
 pub mod Placement

@@ -112,6 +112,10 @@ greatest-same zero k h = absurd (omega arith)
 greatest-same (suc zero) k h = omega arith
 greatest-same (suc (suc m)) k h = omega (arith, greatest-same (suc m) k (omega arith))
 
+-- The sum of what is 0 but at one place is what it is there.
+pub sum-alone : (n : ℕ) (f : ℕ → ℕ) (a : ℕ) → a < n → ((i : ℕ) → i < n → i ≢ a → f i ≡ 0) → sum n f ≡ f a
+sum-alone n f a p h = omega (arith, sum-differ-one n f (λ i. 0) a p h, sum-same n 0)
+
 -- A sum that is not 0 has a term that is not 0.
 pub some-positive : (n : ℕ) (f : ℕ → ℕ) → 0 < sum n f → Less n n (λ i. 0) f
 some-positive n f h = some-less n (λ i. 0) f (omega (arith, sum-same n 0))

@@ -3,7 +3,7 @@
 use borrow.Author.Tests.{eq-eqb, ne-eqb}
 use mathlib.Core.Bool.{false}
 use mathlib.Core.List.{List, [], _∷_, _++_, append-nil}
-use mathlib.Core.Path.{_≡_, refl, ap, _∙_}
+use mathlib.Core.Path.{_≡_, refl, sym, ap, _∙_}
 use Prim.Native.Nat.{ℕ, zero, suc, _+_, _*_, _≤_, _<_}
 use native.Mathlib.Decide.{ℕ-discrete, decLt}
 use native.Mathlib.Omega.{arith}
@@ -11,9 +11,9 @@ use lib.Dec.{eqb}
 use lib.ListN.{getD}
 use Rattle.stacks.specs.Count.{count, one}
 use Rattle.stacks.proofs.Counts.{count-append}
+use Rattle.stacks.proofs.Distinct.{Below}
 use Rattle.marks.specs.Cassettes.{numbers, mayRepeat, cassetteFault}
 use Rattle.marks.proofs.Faulted.{first-none}
-use Rattle.marks.proofs.MarkLaws.{Below}
 use Rattle.marks.proofs.Takes.{taken-cassette, cassette-taken}
 use Rattle.lifts.specs.Lifting.{shown}
 use Rattle.store.specs.declared.Store.{Store}
@@ -83,20 +83,25 @@ module _ (s : Store) where
       shaft-passed s x (once-walks x h n (once-front (cassettesBelow s x) (upward s x (height s x)) p))
       (by-rows s x (h x) ∙ rows-pass (cassettesBelow s x) x (height s x) (n x) p)
 
--- a number that no slot may show stands nowhere
-module _ (s : Store) (b : (i : ℕ) → getD (s .slots) i 0 < numbers) (c : ℕ) (past : numbers ≤ c) where
-  none-upward : (x k : ℕ) → count c (upward s x k) ≡ 0
-  unfolding rowsUp shown count
-  none-upward x zero = refl
-  none-upward x (suc k) =
-      let n = ne-eqb c (slot s x (suc k)) (omega (arith, b (16 * x + k))) in
-      omega (arith, none-upward x k, count-more c (upward s x k) (slot s x (suc k)), ap one n)
+-- a number that no row up to a height shows stands nowhere
+module _ (s : Store) (c : ℕ) (absent : (x k : ℕ) → k < height s x → slot s x (suc k) ≡ c → ⊥) where
+  none-upward : (x k : ℕ) → k ≤ height s x → count c (upward s x k) ≡ 0
+  unfolding rowsUp count
+  none-upward x zero h = refl
+  none-upward x (suc k) h =
+      let n = ne-eqb c (slot s x (suc k)) (λ e. absent x k (omega arith) (sym e)) in
+      omega (arith, none-upward x k (omega arith), count-more c (upward s x k) (slot s x (suc k)), ap one n)
 
-  none-below : (x : ℕ) → count c (cassettesBelow s x) ≡ 0
+  pub none-below : (x : ℕ) → count c (cassettesBelow s x) ≡ 0
   unfolding cassettesBelow count
   none-below zero = refl
-  none-below (suc x) = omega (arith, none-below x, none-upward x (height s x), count-append c (cassettesBelow s x) (upward s x (height s x)))
+  none-below (suc x) = omega (arith, none-below x, none-upward x (height s x) (omega arith), count-append c (cassettesBelow s x) (upward s x (height s x)))
 
 -- the cassettes of a store are what its slots may show
 pub cassettes-below : (s : Store) → ((i : ℕ) → getD (s .slots) i 0 < numbers) → (x : ℕ) → Below numbers (cassettesBelow s x)
-cassettes-below s b x c h = elim (decLt c numbers) [ yes i ↦ i | no i ↦ absurd (omega (arith, none-below s b c (omega arith) x)) ]
+unfolding shown
+cassettes-below s b x c h =
+    elim (decLt c numbers) [
+      | yes i ↦ i
+      | no i ↦ absurd (omega (arith, none-below s c (λ y k l e. omega (arith, b (16 * y + k))) x))
+    ]
