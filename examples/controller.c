@@ -88,7 +88,6 @@ static const char *meaning(int number)
     case HALYARD_HEIGHT: return "a shaft is higher than its depth";
     case HALYARD_CASSETTE_ZERO: return "a cassette has number 0";
     case HALYARD_CASSETTE_TWICE: return "a cassette stands twice";
-    case HALYARD_TOO_MANY: return "there are more than 255 cassettes";
     case HALYARD_PADDING: return "something follows the last field";
     case HALYARD_SHAPES_DIFFER: return "the stores differ in shape";
     case HALYARD_CASSETTES_DIFFER: return "the stores differ in cassettes";

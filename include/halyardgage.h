@@ -74,8 +74,7 @@ enum {
     HALYARD_HEIGHT = 3,            /* a height above h */
     HALYARD_CASSETTE_ZERO = 4,     /* a cassette number 0 */
     HALYARD_CASSETTE_TWICE = 5,    /* a cassette that stood earlier */
-    HALYARD_TOO_MANY = 6,          /* more than 255 cassettes; the 256th is
-                                      already a 4 or a 5 */
+    /* 6 is retired: no call returns it, and it is not used again */
     HALYARD_PADDING = 7,           /* a padding bit set, or bytes after it */
     HALYARD_SHAPES_DIFFER = 8,     /* start and goal differ in m or h */
     HALYARD_CASSETTES_DIFFER = 9,  /* start and goal differ in cassettes */
@@ -141,7 +140,8 @@ static inline unsigned halyard_entered(uint8_t lift)
  * Is this the image of a store?
  *
  * Reads image. Writes nothing.
- * Returns HALYARD_OK, or the first fault of reading, 1 to 7. The count is 0.
+ * Returns HALYARD_OK, or the first fault of reading, 1 to 5 or 7. The count
+ * is 0.
  */
 uint64_t halyard_check(const uint8_t *image, size_t image_len);
 
@@ -150,7 +150,7 @@ uint64_t halyard_check(const uint8_t *image, size_t image_len);
  *
  * Reads start and goal. Writes nothing.
  * Returns HALYARD_OK for yes and HALYARD_UNREACHABLE for no, or the first
- * fault of reading, 1 to 7, or 8 or 9. The count is 0.
+ * fault of reading, 1 to 5 or 7, or 8 or 9. The count is 0.
  */
 uint64_t halyard_reachable(const uint8_t *start, size_t start_len,
                            const uint8_t *goal, size_t goal_len);
@@ -164,7 +164,7 @@ uint64_t halyard_reachable(const uint8_t *start, size_t start_len,
  * HALYARD_LIST_SPACE(h, n); that many of the first bytes of list are then the
  * list, and the rest stay as they came. Start equal to goal gives count 0.
  * Otherwise it writes nothing and returns, with count 0, the first fault of
- * reading, 1 to 7, or 8, 9, HALYARD_SPACE or HALYARD_UNREACHABLE.
+ * reading, 1 to 5 or 7, or 8, 9, HALYARD_SPACE or HALYARD_UNREACHABLE.
  */
 uint64_t halyard_plan(const uint8_t *start, size_t start_len,
                       const uint8_t *goal, size_t goal_len,
@@ -181,7 +181,7 @@ uint64_t halyard_plan(const uint8_t *start, size_t start_len,
  * image_len bytes of out are then the image of the store reached, and the rest
  * stay as they came.
  * Otherwise it writes nothing and returns, with count 0, the first fault of
- * reading, 1 to 7, or HALYARD_SPACE.
+ * reading, 1 to 5 or 7, or HALYARD_SPACE.
  */
 uint64_t halyard_replay(const uint8_t *image, size_t image_len,
                         const uint8_t *list, size_t list_len,
@@ -198,8 +198,8 @@ uint64_t halyard_replay(const uint8_t *image, size_t image_len,
  * 0 where it stands on top; or HALYARD_ABSENT where the cassette is not in the
  * store; or HALYARD_BURIED where no list of lifts uncovers it. Where the number
  * is not HALYARD_OK the lifts are 0. The cassettes named stay.
- * Otherwise it writes nothing and returns the first fault of reading, 1 to 7.
- * The count is 0 in both cases.
+ * Otherwise it writes nothing and returns the first fault of reading, 1 to 5
+ * or 7. The count is 0 in both cases.
  */
 uint64_t halyard_uncover(const uint8_t *image, size_t image_len,
                          struct halyard_order *orders, size_t orders_len);

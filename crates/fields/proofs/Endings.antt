@@ -45,20 +45,16 @@ module _ (s : List ℕ) (at : ℕ) where
         let g : Value (field (drop at (bitsOf s)) n) ≡ Missing = field-there s at n (omega arith) ∙ f in
         let z : _≡_ {A = ℕ} 0 1 = cc in omega arith
 
--- 6, 7, or the store
-module _ (bytes : List ℕ) (n : ℕ) (c : Cursor) where
-  pub end-kept : (c .fault ≡ 0 → ⊥) → EndIs bytes n c c
-  end-kept h = record { same = λ before s l. both-refused (c .fault) _ _ h }
+-- 7, or the store
+module _ (bytes : List ℕ) (c : Cursor) where
+  pub end-kept : (c .fault ≡ 0 → ⊥) → EndIs bytes c c
+  end-kept h = record { same = λ before s. both-refused (c .fault) _ _ h }
 
   module _ (e : c .fault ≡ 0) where
-    pub too-many : 255 < n → EndIs bytes n c (stop c 6)
+    pub not-padded : padding (left bytes (c .at)) ≡ false → EndIs bytes c (stop c 7)
     unfolding finish
-    too-many h = record { same = λ before s l. rw (e, l, lt-ltb 255 n h) }
+    not-padded p = record { same = λ before s. rw (e, p) }
 
-    pub not-padded : n ≤ 255 → padding (left bytes (c .at)) ≡ false → EndIs bytes n c (stop c 7)
+    pub all-read : padding (left bytes (c .at)) ≡ true → EndIs bytes c c
     unfolding finish
-    not-padded h p = record { same = λ before s l. rw (e, l, le-ltb 255 n h, p) }
-
-    pub all-read : n ≤ 255 → padding (left bytes (c .at)) ≡ true → EndIs bytes n c c
-    unfolding finish
-    all-read h p = record { same = λ before s l. rw (e, l, le-ltb 255 n h, p) }
+    all-read p = record { same = λ before s. rw (e, p) }

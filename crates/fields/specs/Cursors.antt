@@ -3,7 +3,7 @@ use mathlib.Core.Bool.{Bool}
 use mathlib.Core.List.{List}
 use mathlib.Core.Path.{_≡_}
 use Prim.Native.Nat.{ℕ, _+_, _^_, _≤_, _<_}
-use lib.ListN.{length, drop}
+use lib.ListN.{drop}
 use Rattle.lifts.specs.Lifting.{mostShafts}
 use Rattle.store.specs.declared.Store.{Store}
 use Rattle.depths.specs.Depths.{DepthsFit}
@@ -38,6 +38,6 @@ pub record HeadIs (bytes : List ℕ) (r : Head) : Type 0 where
 abbrev pub ended : Cursor → Store → Reading
 ended r s = unless (r .fault) (record { store = s; number = 0 })
 
--- The end of a reading took the cursor from c to r, after n cassettes.
-pub record EndIs (bytes : List ℕ) (n : ℕ) (c r : Cursor) : Type 0 where
-  pub same : (before : List ℕ) (s : Store) → length before ≡ n → unless (c .fault) (finish before s (left bytes (c .at))) ≡ ended r s
+-- The end of a reading took the cursor from c to r.
+pub record EndIs (bytes : List ℕ) (c r : Cursor) : Type 0 where
+  pub same : (before : List ℕ) (s : Store) → unless (c .fault) (finish before s (left bytes (c .at))) ≡ ended r s

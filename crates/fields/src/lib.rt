@@ -63,15 +63,12 @@ fn padded(image: &[u8], at: usize) -> bool
     }
 }
 
-// After the last shaft, with n cassettes read: 6, then 7.
-pub fn finished(image: &[u8], c: Cursor, n: usize) -> Cursor
-    ensures { λ r. ⌜ EndIs (now (image .entry)) n c r ⌝ }
+// After the last shaft: 7 unless zero bits to the end of the byte are all that is left.
+pub fn finished(image: &[u8], c: Cursor) -> Cursor
+    ensures { λ r. ⌜ EndIs (now (image .entry)) c r ⌝ }
 {
     if c.fault != 0 {
         return c;
-    }
-    if 255 < n {
-        return stopped(c, 6);
     }
     if !padded(image, c.at) {
         return stopped(c, 7);

@@ -14,7 +14,7 @@ use Rattle.image.specs.Numbers.{readNumber, writeNumber}
 readTold : ℕ → ReadAnswer
 readTold k =
     getD (ReadAnswer.Accepted ∷ ReadAnswer.WrongForm ∷ ReadAnswer.Short ∷ ReadAnswer.TooHigh
-    ∷ ReadAnswer.NumberZero ∷ ReadAnswer.Twice ∷ ReadAnswer.TooMany ∷ []) k ReadAnswer.Padding
+    ∷ ReadAnswer.NumberZero ∷ ReadAnswer.Twice ∷ []) k ReadAnswer.Padding
 
 read-told : (a : ReadAnswer) → readTold (readNumber a) ≡ a
 unfolding readTold
@@ -24,7 +24,6 @@ read-told ReadAnswer.Short = refl
 read-told ReadAnswer.TooHigh = refl
 read-told ReadAnswer.NumberZero = refl
 read-told ReadAnswer.Twice = refl
-read-told ReadAnswer.TooMany = refl
 read-told ReadAnswer.Padding = refl
 
 pub only-read : {k : ℕ} {a : ReadAnswer} → readNumber a ≡ k → Only readNumber k a

@@ -13,7 +13,7 @@ use Rattle.store.specs.declared.Store.{Store}
 use Rattle.rows.specs.Rows.{rowsUp}
 use Rattle.store.specs.Slots.{cassettesBelow, cassettes, cassetteCount}
 use Rattle.store.specs.Accept.{Accepted}
-use Rattle.store.proofs.Acceptance.{accepted-sound}
+use Rattle.store.proofs.Acceptance.{accepted-shaped, accepted-few}
 use Rattle.image.specs.Image.{heightWidth, cassetteWidth, headBits, columnBits, columnsBits, shaftsBits, imageBits, imageLength}
 
 pub length-rows : (slots : List ℕ) (x k : ℕ) → length (rowsUp slots x k) ≡ k
@@ -56,7 +56,7 @@ length-image s = length-append (headBits s) (shaftsBits s (s .m)) ∙ omega (ari
 -- "The longest image has 267 bytes."
 pub longest : (s : Store) → Accepted s → imageLength s ≤ 267
 unfolding imageLength
-longest s e = let p = accepted-sound s e in omega (arith, length-image s, p .few, p .shaped .shafts)
+longest s e = omega (arith, length-image s, accepted-few s e, accepted-shaped s e .shafts)
 
 pub image-length : (s : Store) → imageLength s ≡ (12 + length (shaftsBits s (s .m)) + 7) / 8
 unfolding imageLength imageBits

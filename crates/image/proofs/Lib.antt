@@ -2,7 +2,6 @@ pub mod Answered
 pub mod Carried
 pub mod Cut
 pub mod Lengths
-pub mod NeverSix
 pub mod Nexts
 pub mod Numbers
 pub mod ReadBack

@@ -1,6 +1,6 @@
 -- The round trips (document 01, "The image"): a store accepted, written and read is that store; an accepted image, read and written, is those bytes.
 -- So no two images stand for one store.
-use borrow.Author.Tests.{lt-ltb, le-ltb, ltb-true, ltb-false, eqb-true}
+use borrow.Author.Tests.{lt-ltb, ltb-true, eqb-true}
 use mathlib.Core.Bool.{Bool, true, not}
 use mathlib.Core.List.{List, [], _++_, append-nil, append-assoc}
 use mathlib.Core.Path.{_≡_, refl, sym, ap, ap₂, _∙_, subst}
@@ -8,7 +8,7 @@ use Prim.Native.Nat.{ℕ, suc, _+_, _-_, _*_, _/_, _%_, _≤_, _<_}
 use native.Mathlib.Decide.{decLt}
 use native.Mathlib.Nat.{zero-lt-suc}
 use native.Mathlib.Omega.{arith}
-use lib.Dec.{ltb, eqb}
+use lib.Dec.{eqb}
 use lib.ListN.{length, getD, drop, replicate, length-append}
 use lib.Pow.{pow-pos}
 use lib.Seq.{take-all}
@@ -16,10 +16,10 @@ use Rattle.bits.specs.Fields.{bits, field, bitsOf, byteCount}
 use Rattle.bits.proofs.Widths.{length-bits, length-packed, field-bits, field-lt, bits-field}
 use Rattle.bits.proofs.Bytes.{padded, bytes-agree, bytes-back, padded-agrees}
 use Rattle.marks.specs.Cassettes.{given}
-use Rattle.marks.proofs.Faulted.{first-none, given-none, not-given, both-true}
+use Rattle.marks.proofs.Faulted.{not-given, both-true}
 use Rattle.lifts.specs.Lifting.{mostShafts, mostRows, slotCount, shown}
 use Rattle.store.specs.declared.Store.{Store}
-use Rattle.store.specs.Slots.{held, height, slot, cassettesBelow, cassettes, cassetteCount}
+use Rattle.store.specs.Slots.{held, height, slot, cassettes}
 use Rattle.store.specs.Accept.{allShown, shaftsFault, Accepted}
 use Rattle.store.specs.Sound.{Shaped}
 use Rattle.store.proofs.Acceptance.{accepted-sound}
@@ -27,7 +27,7 @@ use Rattle.depths.proofs.DepthLaws.{depth-some, depth-most, depth-least, rows-m
 use Rattle.store.proofs.InPlace.{shaped-in-place}
 use Rattle.store.proofs.Once.{once-walks}
 use Rattle.store.proofs.Typed.{shown-at}
-use Rattle.store.proofs.Verdicts.{no-fault}
+use Rattle.store.proofs.Verdicts.{by-shafts}
 use Rattle.store.proofs.Walk.{shaft-none, not-too-high}
 use Rattle.image.specs.Image.{formWidth, frameWidth, headBits, shaftsBits, imageBits, imageLength, imageOf}
 use Rattle.image.specs.Reading.{Reading, emptyStore, next, padding, endFault, finish, readBody, readDepth, readSize, readForm, readImage}
@@ -58,13 +58,13 @@ zeros-pad k h =
     let z : field (bits k 0) k ≡ 0 = rw append-nil at (field-bits k 0 [] (pow-pos k)) in
     simp (length-bits k 0, lt-ltb k 8 h, z)
 
-finishes : (b : List ℕ) (s : Store) (l : List Bool) → length b ≤ 255 → padding l ≡ true → finish b s l ≡ accepted s
+finishes : (b : List ℕ) (s : Store) (l : List Bool) → padding l ≡ true → finish b s l ≡ accepted s
 unfolding finish
-finishes b s l h p = simp (le-ltb 255 (length b) h, p)
+finishes b s l p = simp p
 
 -- a store accepted, written and read is that store
 pub written-read : (s : Store) → Accepted s → readImage (imageOf s) ≡ accepted s
-unfolding readImage readBody imageOf imageLength imageBits headBits cassettes cassetteCount
+unfolding readImage imageOf cassettes
 written-read s e =
     let p = accepted-sound s e in
     let k = byteCount (length (imageBits s)) * 8 - length (imageBits s) in
@@ -78,14 +78,14 @@ written-read s e =
     ∙ next-reads frameWidth (s .h - 1) (shafts ++ pad) (λ n r. readBody (emptyStore (s .m - 1 + 1) (n + 1)) r) (omega (arith, rows-most (s .h) 0 (p .shaped .rows 0)))
     ∙ ap₂ (λ (n r : ℕ). readBody (emptyStore n r) (shafts ++ pad)) m h
     ∙ shafts-back s (p .shaped) (s .m) pad finish (p .shaped .shafts) (once-walks s (s .m) (p .shaped .heights) (p .no-gap) (p .once))
-    ∙ finishes (cassettes s) (cut s (s .m) (16 * s .m)) pad (p .few) (zeros-pad k (omega arith))
+    ∙ finishes (cassettes s) (cut s (s .m) (16 * s .m)) pad (zeros-pad k (omega arith))
     ∙ ap accepted (whole s (p .shaped))
 
 -- what the end of a reading gives back
 finish-settles : (s : Store) (m : ℕ) (b : List ℕ) (t : Store) (l : List Bool) → Low m t → finish b t l ≡ accepted s → Settled s m t
 unfolding finish
 finish-settles s m b t l low e =
-    let q : t ≡ s = ap (λ (r : Reading). r .store) (unless-accepted (endFault b l) (accepted t) s e .1) in
+    let q : t ≡ s = ap (λ (r : Reading). r .store) (unless-accepted (endFault l) (accepted t) s e .1) in
     rw (← q) (record {
       same = sym (ap₂ (held (t .m) (t .h)) (low .heights) (low .slots));
       heights-sized = low .heights-sized;
@@ -131,7 +131,7 @@ module _ (s : Store) (m : ℕ) (few : m ≤ mostShafts) (same : s .m ≡ m) (low
 
 body-read : (s : Store) (m h : ℕ) (l : List Bool) → 0 < m → m ≤ mostShafts → 0 < h → h ≤ mostRows → readBody (emptyStore m h) l ≡ accepted s
     → Body s m h l
-unfolding readBody finish cassettes cassetteCount allShown
+unfolding readBody allShown
 body-read s m h l a few b rows e =
     let low : Low 0 (emptyStore m h) = record {
       heights-sized = refl;
@@ -142,19 +142,17 @@ body-read s m h l a few b rows e =
       rows = λ x. depth-most h x rows;
     } in
     let p = shafts-read s (emptyStore m h) m l finish few low (λ b t r. finish-settles s m b t r) e in
-    let f = unless-accepted (endFault (cassettesBelow s m) (p .left)) (accepted (cut s m (16 * m))) s (p .after) in
-    let g = first-none (given (ltb 255 (length (cassettesBelow s m))) 6) _ (f .0) in
+    let f = unless-accepted (endFault (p .left)) (accepted (cut s m (16 * m))) s (p .after) in
     let all = subst (Low m) (ap (λ (r : Reading). r .store) (f .1)) (p .low) in
     let is : s .m ≡ m = ap (λ (u : Store). u .m) (sym (p .start)) in
     let deep : s .h ≡ h = ap (λ (u : Store). u .h) (sym (p .start)) in
-    let room = ltb-false 255 (length (cassettesBelow s m)) (given-none _ 5 (g .0)) in
     record {
       shafts = is;
       rows = deep;
       read = p;
-      pad = not-given (padding (p .left)) 6 (g .1);
-      sound = no-fault s (shaped-in-place s (low-shaped s m few is all (p .above) (p .clean)) (omega arith) (λ x i. depth-some (s .h) x (omega arith)))
-          (ap (shaftsFault s) is ∙ p .clean) (omega (arith, room, ap (λ (n : ℕ). length (cassettesBelow s n)) is));
+      pad = not-given (padding (p .left)) 6 (f .0);
+      sound = by-shafts s (shaped-in-place s (low-shaped s m few is all (p .above) (p .clean)) (omega arith) (λ x i. depth-some (s .h) x (omega arith)))
+          ∙ ap (shaftsFault s) is ∙ p .clean;
     }
 
 -- the fields before the shafts

@@ -1,7 +1,10 @@
--- The number of document 01 ("Refused because of the input") for each case of an answer; 0 where nothing is refused.
-use Prim.Native.Nat.{ℕ}
+-- The number of document 01 ("Refused because of the input") for each case of an answer; 0 where nothing is refused. 6 is retired (request 3/13) and
+-- is not used again.
+use mathlib.Core.Logic.{_⊎_}
+use mathlib.Core.Path.{_≡_}
+use Prim.Native.Nat.{ℕ, _≤_}
 use Rattle.image.specs.declared.ReadAnswer.{ReadAnswer}
-use Rattle.image.specs.declared.ReadAnswer.the-variants.{Accepted, WrongForm, Short, TooHigh, NumberZero, Twice, TooMany, Padding}
+use Rattle.image.specs.declared.ReadAnswer.the-variants.{Accepted, WrongForm, Short, TooHigh, NumberZero, Twice, Padding}
 use Rattle.image.specs.declared.WriteAnswer.{WriteAnswer}
 use Rattle.image.specs.declared.WriteAnswer.the-variants.{Whole, StoreRefused, NoRoom}
 use Rattle.store.specs.Numbers.{faultNumber}
@@ -13,8 +16,11 @@ readNumber Short = 2
 readNumber TooHigh = 3
 readNumber NumberZero = 4
 readNumber Twice = 5
-readNumber TooMany = 6
 readNumber Padding = 7
+
+-- the numbers that a reading gives
+abbrev pub ReadingGives : ℕ → Type 0
+ReadingGives k = (k ≤ 5) ⊎ (k ≡ 7)
 
 abbrev pub writeNumber : WriteAnswer → ℕ
 writeNumber Whole = 0

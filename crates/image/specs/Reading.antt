@@ -1,5 +1,6 @@
 -- Reading an image (document 01, "Which comes first"): "Reading goes field by field, and the first fault met is given: 2 for a missing field, then
--- the field's own fault (4 before 5). After the last shaft come 6, then 7". Each part is handed what is read after it, so the faults come in this order.
+-- the field's own fault (4 before 5)." After the last shaft comes 7 (request 3/13). Each part is handed what is read after it, so the faults come in this
+-- order.
 use mathlib.Core.Bool.{Bool, not, _&&_}
 use mathlib.Core.List.{List, [], _∷_, _++_}
 use Prim.Native.Nat.{ℕ, zero, suc, _+_, _*_}
@@ -8,7 +9,7 @@ use lib.ListN.{length, drop, set, replicate}
 use Rattle.bits.specs.declared.Field.{Field}
 use Rattle.bits.specs.declared.Field.the-variants.{Value, Missing}
 use Rattle.bits.specs.Fields.{field, bitsOf, nextField}
-use Rattle.marks.specs.Cassettes.{given, first, cassetteFault}
+use Rattle.marks.specs.Cassettes.{given, cassetteFault}
 use Rattle.lifts.specs.Lifting.{mostShafts, slotCount}
 use Rattle.store.specs.declared.Store.{Store}
 use Rattle.store.specs.Slots.{depth}
@@ -89,13 +90,13 @@ readShafts (suc x) before s l c = readShafts x before s l (λ b t r. readShaft x
 unfoldable pub padding : List Bool → Bool
 padding l = ltb (length l) 8 && eqb (field l (length l)) 0
 
--- "6. More than 255 cassettes. 7. A padding bit set, or bytes after the padding."
-abbrev pub endFault : List ℕ → List Bool → ℕ
-endFault before l = first (given (ltb 255 (length before)) 6) (given (not (padding l)) 7)
+-- "7. A padding bit set, or bytes after the padding."
+abbrev pub endFault : List Bool → ℕ
+endFault l = given (not (padding l)) 7
 
 unfoldable pub finish : Rest
 unfolding padding
-finish before s l = unless (endFault before l) (record { store = s; number = 0 })
+finish before s l = unless (endFault l) (record { store = s; number = 0 })
 
 -- the shafts of a store that is empty so far, and the end
 unfoldable pub readBody : Store → List Bool → Reading

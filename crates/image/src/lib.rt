@@ -4,7 +4,7 @@
 use store::Fault;
 use store::Store;
 
-// Whether an image is accepted, or why it is refused: 1 to 7.
+// Whether an image is accepted, or why it is refused: 1 to 5, 7.
 pub enum ReadAnswer {
     Accepted,
     WrongForm,
@@ -12,7 +12,6 @@ pub enum ReadAnswer {
     TooHigh,
     NumberZero,
     Twice,
-    TooMany,
     Padding,
 }
 

@@ -98,6 +98,14 @@ fn fullest() -> Store {
     s
 }
 
+// The same with a cassette in the last slot too.
+fn one_more(c: u8) -> Store {
+    let mut s = fullest();
+    s.heights[15] = 16;
+    s.slots[255] = c;
+    s
+}
+
 fn images_read() {
     shown(b"the example: ", b"\x02\x11\x00\x81\x00\x20\x60");
     shown(b"m 1, h 1, empty: ", b"\x00\x00\x00");
@@ -135,6 +143,8 @@ fn stores_refused() {
     let mut kept = [255u8; 2];
     written(b"m 0: ", empty(0, 1), &mut kept);
     written(b"two bytes lent for three: ", empty(1, 1), &mut kept);
+    written(b"a 256th cassette, 0: ", one_more(0), &mut kept);
+    written(b"a 256th cassette, 255 again: ", one_more(255), &mut kept);
 }
 
 fn main() {

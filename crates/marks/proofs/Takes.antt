@@ -9,7 +9,7 @@ use native.Mathlib.Omega.{arith}
 use lib.Dec.{eqb, ltb}
 use lib.ListN.{length}
 use Rattle.stacks.specs.Count.{count, one}
-use Rattle.stacks.proofs.Counts.{count-append}
+use Rattle.stacks.proofs.Counts.{count-last}
 use Rattle.stacks.proofs.Distinct.{distinct-few}
 use Rattle.marks.specs.declared.Taken.the-variants.{Added, NumberZero, Twice}
 use Rattle.marks.specs.Cassettes.{numbers, mayRepeat, given, cassetteFault}
@@ -61,23 +61,28 @@ pub nothing-marked : Marked noMarks []
 unfolding withMarks count
 nothing-marked = record { marks = refl; below = λ c h. absurd (omega arith); once = λ c r. omega arith }
 
--- one cassette more, that stood nowhere unless it may
-pub marked-more : (words l : List ℕ) (c : ℕ) → Marked words l → c < numbers → (mayRepeat c ≡ false → count c l ≡ 0) → Marked (withMark words c) (l ++ (c ∷ []))
-unfolding count
+-- no number stands twice in a list that may not
+abbrev pub Once : List ℕ → Type 0
+Once l = (c : ℕ) → mayRepeat c ≡ false → count c l ≤ 1
+
+-- nor after one more, that stood nowhere unless it may
+pub once-more : (l : List ℕ) (x : ℕ) → Once l → (mayRepeat x ≡ false → count x l ≡ 0) → Once (l ++ (x ∷ []))
+once-more l x p e c r =
+    rw (count-last c l x)
+    (elim (ℕ-discrete c x) [
+      | yes q ↦ omega (arith, ap (λ (n : ℕ). count n l) q, ap one (eq-eqb c x q), e (rw (← q) r))
+      | no q ↦ omega (arith, p c r, ap one (ne-eqb c x q))
+    ])
+
+marked-more : (words l : List ℕ) (c : ℕ) → Marked words l → c < numbers → (mayRepeat c ≡ false → count c l ≡ 0) → Marked (withMark words c) (l ++ (c ∷ []))
 marked-more words l c m h z = record {
   marks = ap (λ (w : List ℕ). withMark w c) (m .marks) ∙ sym (with-more _ l c);
   below = λ d p. elim (ℕ-discrete d c) [
     | yes e ↦ omega arith
-    | no n ↦ m .below d (omega (arith, more d, ap one (ne-eqb d c n)))
+    | no n ↦ m .below d (omega (arith, count-last d l c, ap one (ne-eqb d c n)))
   ];
-  once = λ d r. elim (ℕ-discrete d c) [
-    | yes e ↦ omega (arith, more d, ap one (eq-eqb d c e), ap (λ (n : ℕ). count n l) e, z (rw (← e) r))
-    | no n ↦ omega (arith, more d, ap one (ne-eqb d c n), m .once d r)
-  ];
+  once = once-more l c (m .once) z;
 }
-  where
-    more : (d : ℕ) → count d (l ++ (c ∷ [])) ≡ count d l + (one (eqb d c) + 0)
-    more d = count-append d l (c ∷ [])
 
 -- the answers of taking a cassette
 module _ (words : List ℕ) (c : ℕ) where

@@ -31,7 +31,6 @@ pub fn fault_number(f: Fault) -> u8
         Fault::TooHigh => 3,
         Fault::NumberZero => 4,
         Fault::Twice => 5,
-        Fault::TooMany => 6,
     }
 }
 
@@ -74,7 +73,6 @@ pub fn read_number(a: ReadAnswer) -> u8
         ReadAnswer::TooHigh => 3,
         ReadAnswer::NumberZero => 4,
         ReadAnswer::Twice => 5,
-        ReadAnswer::TooMany => 6,
         ReadAnswer::Padding => 7,
     }
 }

@@ -17,13 +17,15 @@ use Rattle.plans.specs.Numbers.{planNumber}
 use Rattle.plans.specs.Promises.{PlanSays, Lists}
 use Rattle.plans.proofs.PlanExact.{listed-list, zero-is-listed, fifteen-is-unreachable, number-most}
 use Rattle.marks.proofs.Faulted.{first-either}
-use Rattle.image.proofs.Numbers.{number-few}
+use Rattle.image.specs.Numbers.{ReadingGives}
+use Rattle.image.proofs.Numbers.{number-given}
 use Rattle.calls.specs.Shared.{answerOf, storeIn, readFault, readFaults}
 use Rattle.pair_calls.specs.PairCalls.{ReachCallIs, PlanGives, PlanCallIs}
 
--- faults of reading are 1 to 7
+-- no fault of reading is above 7
 faults-few : (a b : List ℕ) → readFaults a b ≤ 7
-faults-few a b = first-either (λ k. k ≤ 7) (readFault a) (readFault b) (number-few a) (number-few b)
+faults-few a b =
+    ⊎-elim (λ h. omega arith) (λ e. omega arith) (first-either ReadingGives (readFault a) (readFault b) (number-given a) (number-given b))
 
 module _ {a b : List ℕ} {r : ℕ} (p : ReachCallIs a b r) where
   -- a number that no fault of reading has is the answer on the stores

@@ -91,5 +91,4 @@ leads-accepted {s} {t} e l =
       some-row = λ x h. subst (λ (d : ℕ → ℕ). 0 < d x) (frame-depths f) (p .some-row x (omega (arith, f .shafts)));
       no-gap = leads-no-gap (p .shaped) l (p .no-gap);
       once = λ c r. omega (arith, leads-counts (p .shaped) l c, p .once c r);
-      few = omega (arith, leads-count (p .shaped) l, p .few);
     })

@@ -8,7 +8,6 @@ use image::Read;
 use image::ReadAnswer;
 use lifts::Heights;
 use lifts::Slots;
-use marks::count;
 use marks::none;
 use store::Store;
 ghost use mathlib.Core.Path.{_≡_};
@@ -16,7 +15,7 @@ ghost use Prim.Native.Nat.{_≤_};
 ghost use Rattle.lifts.specs.Lifting.{mostShafts};
 ghost use Rattle.store.specs.Slots.{held};
 ghost use Rattle.depths.specs.Depths.{DepthsFit};
-ghost use Rattle.image.specs.Numbers.{readNumber};
+ghost use Rattle.image.specs.Numbers.{readNumber, ReadingGives};
 ghost use Rattle.image.specs.Promises.{ReadIs};
 ghost use Rattle.image.specs.Reading.{readImage};
 ghost use Rattle.reading.specs.Promises.{BodyIs};
@@ -35,11 +34,11 @@ fn read_body(
 {
     let mut marks = none();
     let end = read_shafts(image, c, m, h, heights, slots, &mut marks);
-    finished(image, end, count(marks))
+    finished(image, end)
 }
 
 fn answer_of(fault: u8) -> ReadAnswer
-    requires { ⌜ fault ≤ 7 ⌝ }
+    requires { ⌜ ReadingGives fault ⌝ }
     ensures { λ r. ⌜ readNumber r ≡ fault ⌝ }
 {
     match fault {
@@ -49,7 +48,6 @@ fn answer_of(fault: u8) -> ReadAnswer
         3 => ReadAnswer::TooHigh,
         4 => ReadAnswer::NumberZero,
         5 => ReadAnswer::Twice,
-        6 => ReadAnswer::TooMany,
         _ => ReadAnswer::Padding,
     }
 }

@@ -1,4 +1,4 @@
--- The rows of one shaft, read upward and downward, and the first fault of its cassettes (document 01, "Which comes first": "in image order").
+-- The rows of one shaft, read upward and downward, and the first fault of its cassettes, in image order (request 3/13).
 use mathlib.Core.List.{List, [], _∷_, _++_}
 use mathlib.Core.Path.{_≡_}
 use Prim.Native.Nat.{ℕ, zero, suc, _<_}

@@ -5,6 +5,7 @@ use mathlib.Core.List.{List, [], _∷_, _++_}
 use Prim.Native.Nat.{ℕ, zero, suc, _+_, _<_}
 use native.Mathlib.Decide.{ℕ-discrete}
 use native.Mathlib.Omega.{arith}
+use lib.Dec.{eqb}
 use lib.ListN.{length, length-append}
 use Rattle.stacks.specs.Run.{Stacks}
 use Rattle.stacks.specs.Count.{sum, one, count, occurrences, total}
@@ -14,6 +15,11 @@ pub count-append : (c : ℕ) (l r : List ℕ) → count c (l ++ r) ≡ count c l
 unfolding count
 count-append c [] r = omega arith
 count-append c (x ∷ l) r = omega (arith, count-append c l r)
+
+-- The count of a list with one number more at its end.
+pub count-last : (c : ℕ) (l : List ℕ) (x : ℕ) → count c (l ++ (x ∷ [])) ≡ count c l + one (eqb c x)
+unfolding count
+count-last c l x = omega (arith, count-append c l (x ∷ []))
 
 -- The number on top is counted.
 pub count-own : (c : ℕ) (l : List ℕ) → 0 < count c (c ∷ l)

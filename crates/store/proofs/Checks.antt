@@ -6,7 +6,7 @@ use native.Mathlib.Omega.{arith}
 use Rattle.marks.specs.Marking.{noMarks, withMarks}
 use Rattle.store.specs.declared.Checked.{Checked}
 use Rattle.store.specs.declared.Fault.{Fault}
-use Rattle.store.specs.declared.Fault.the-variants.{OutOfPlace, TooHigh, NumberZero, Twice, TooMany}
+use Rattle.store.specs.declared.Fault.the-variants.{OutOfPlace, TooHigh, NumberZero, Twice}
 use Rattle.store.specs.declared.Verdict.the-variants.{Accepted, Refused}
 use Rattle.store.specs.Numbers.{faultNumber, verdictNumber}
 use Rattle.store.specs.Promises.{marksUnless, CheckIs}
@@ -21,7 +21,6 @@ fault-range OutOfPlace = omega arith
 fault-range TooHigh = omega arith
 fault-range NumberZero = omega arith
 fault-range Twice = omega arith
-fault-range TooMany = omega arith
 
 pub fault-one : (f : Fault) → faultNumber f ≡ 0 → ⊥
 fault-one f e = omega (arith, fault-range f)

@@ -3,7 +3,6 @@ pub mod Checks
 pub mod InPlace
 pub mod LiftExact
 pub mod Lifting
-pub mod NeverSix
 pub mod Numbered
 pub mod Once
 pub mod Played

@@ -8,7 +8,7 @@ use Rattle.lifts.specs.declared.Refusal.the-variants.{Shafts, Empty, Full}
 use Rattle.lifts.specs.Numbers.{Only, refusalNumber}
 use Rattle.lifts.proofs.Numbered.{only-by}
 use Rattle.store.specs.declared.Fault.{Fault}
-use Rattle.store.specs.declared.Fault.the-variants.{OutOfPlace, TooHigh, NumberZero, Twice, TooMany}
+use Rattle.store.specs.declared.Fault.the-variants.{OutOfPlace, TooHigh, NumberZero, Twice}
 use Rattle.store.specs.declared.Verdict.{Verdict}
 use Rattle.store.specs.declared.Answer.{Answer}
 use Rattle.store.specs.Numbers.{faultNumber, verdictNumber, answerNumber}
@@ -22,8 +22,7 @@ module _ {A : Type 0} (none : A) (store : Fault → A) (lift : Refusal → A) wh
       (cond (eqb k 3) (store TooHigh)
       (cond (eqb k 4) (store NumberZero)
       (cond (eqb k 5) (store Twice)
-      (cond (eqb k 6) (store TooMany)
-      (cond (eqb k 11) (lift Shafts) (cond (eqb k 13) (lift Empty) (lift Full))))))))
+      (cond (eqb k 11) (lift Shafts) (cond (eqb k 13) (lift Empty) (lift Full)))))))
 
   pub told-none : told 0 ≡ none
   unfolding told
@@ -35,7 +34,6 @@ module _ {A : Type 0} (none : A) (store : Fault → A) (lift : Refusal → A) wh
   told-store TooHigh = refl
   told-store NumberZero = refl
   told-store Twice = refl
-  told-store TooMany = refl
 
   pub told-lift : (r : Refusal) → told (refusalNumber r) ≡ lift r
   unfolding told

@@ -5,16 +5,15 @@ use mathlib.Core.Bool.{false}
 use mathlib.Core.List.{List, [], _∷_, _++_, append-nil}
 use mathlib.Core.Path.{_≡_, refl, sym, ap, _∙_}
 use Prim.Native.Nat.{ℕ, zero, suc, _+_, _*_, _≤_, _<_}
-use native.Mathlib.Decide.{ℕ-discrete, decLt}
+use native.Mathlib.Decide.{decLt}
 use native.Mathlib.Omega.{arith}
-use lib.Dec.{eqb}
 use lib.ListN.{getD}
 use Rattle.stacks.specs.Count.{count, one}
-use Rattle.stacks.proofs.Counts.{count-append}
+use Rattle.stacks.proofs.Counts.{count-append, count-last}
 use Rattle.stacks.proofs.Distinct.{Below}
 use Rattle.marks.specs.Cassettes.{numbers, mayRepeat, cassetteFault}
 use Rattle.marks.proofs.Faulted.{first-none}
-use Rattle.marks.proofs.Takes.{taken-cassette, cassette-taken}
+use Rattle.marks.proofs.Takes.{taken-cassette, cassette-taken, Once, once-more}
 use Rattle.lifts.specs.Lifting.{shown}
 use Rattle.store.specs.declared.Store.{Store}
 use Rattle.store.specs.Slots.{depth, height, slot, upward, cassettesBelow}
@@ -23,26 +22,8 @@ use Rattle.store.specs.Accept.{shaftFault, shaftsFault}
 use Rattle.rows.proofs.Walk.{row-after, row-passed}
 use Rattle.store.proofs.Walk.{shaft-passed, by-rows, not-too-high}
 
--- no number stands twice in a list that may not
-abbrev Once : List ℕ → Type 0
-Once l = (c : ℕ) → mayRepeat c ≡ false → count c l ≤ 1
-
--- how often c stands after one number more
-count-more : (c : ℕ) (l : List ℕ) (x : ℕ) → count c (l ++ (x ∷ [])) ≡ count c l + one (eqb c x)
-unfolding count
-count-more c l x = omega (arith, count-append c l (x ∷ []))
-
--- no number stands twice after one more, exactly if none did before and the new one is new
-once-more : (l : List ℕ) (x : ℕ) → Once l → (mayRepeat x ≡ false → count x l ≡ 0) → Once (l ++ (x ∷ []))
-once-more l x p e c r =
-    rw (count-more c l x)
-    (elim (ℕ-discrete c x) [
-      | yes q ↦ omega (arith, ap (λ (n : ℕ). count n l) q, ap one (eq-eqb c x q), e (rw (← q) r))
-      | no q ↦ omega (arith, p c r, ap one (ne-eqb c x q))
-    ])
-
 once-last : (l : List ℕ) (x : ℕ) → Once (l ++ (x ∷ [])) → mayRepeat x ≡ false → count x l ≡ 0
-once-last l x p r = omega (arith, p x r, count-more x l x, ap one (eq-eqb x x refl))
+once-last l x p r = omega (arith, p x r, count-last x l x, ap one (eq-eqb x x refl))
 
 once-front : (l r : List ℕ) → Once (l ++ r) → Once l
 once-front l r p c m = omega (arith, p c m, count-append c l r)
@@ -90,7 +71,7 @@ module _ (s : Store) (c : ℕ) (absent : (x k : ℕ) → k < height s x → slot
   none-upward x zero h = refl
   none-upward x (suc k) h =
       let n = ne-eqb c (slot s x (suc k)) (λ e. absent x k (omega arith) (sym e)) in
-      omega (arith, none-upward x k (omega arith), count-more c (upward s x k) (slot s x (suc k)), ap one n)
+      omega (arith, none-upward x k (omega arith), count-last c (upward s x k) (slot s x (suc k)), ap one n)
 
   pub none-below : (x : ℕ) → count c (cassettesBelow s x) ≡ 0
   unfolding cassettesBelow count

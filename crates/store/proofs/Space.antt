@@ -8,12 +8,13 @@ use Rattle.stacks.proofs.Sums.{greatest-le}
 use Rattle.lifts.specs.Lifting.{mostRows}
 use Rattle.store.specs.declared.Store.{Store}
 use Rattle.store.specs.Accept.{Accepted}
-use Rattle.store.specs.Slots.{depth, deepest, listSpace}
-use Rattle.store.proofs.Acceptance.{accepted-sound}
+use Rattle.store.specs.Slots.{depth, deepest, cassetteCount, listSpace}
+use Rattle.store.proofs.Acceptance.{accepted-sound, accepted-few}
 
 pub list-space-most : (s : Store) → Accepted s → listSpace s ≤ 18360
 unfolding listSpace deepest
 list-space-most s e =
     let p = accepted-sound s e in
     let h : 4 * greatest (s .m) (depth s) ≤ 64 = omega (arith, greatest-le (s .m) (depth s) mostRows (p .shaped .rows)) in
-    omega (arith, mul-le-mul h (p .few), p .few)
+    let n : cassetteCount s ≤ 255 = omega (arith, accepted-few s e) in
+    omega (arith, mul-le-mul h n)

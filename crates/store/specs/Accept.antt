@@ -1,5 +1,5 @@
--- When a store given as a value is accepted, and else which of the numbers 12, 3, 4, 5, 6 refuses it (document 01, "Refused because of the input" and
--- "Which comes first": "A store given as a value is checked for 12, then for 3, 4, 5 and 6 in image order"). 0 is no fault.
+-- When a store given as a value is accepted, and else which of the numbers 12, 3, 4, 5 refuses it (document 01, "Refused because of the input"), checked
+-- for 12, then for 3, 4 and 5 in image order (request 3/13). 0 is no fault.
 use mathlib.Core.Bool.{Bool, true, not, _&&_}
 use mathlib.Core.List.{List, [], _∷_}
 use mathlib.Core.Path.{_≡_}
@@ -11,7 +11,7 @@ use Rattle.lifts.specs.Lifting.{mostShafts, slotCount}
 use Rattle.in_place.specs.InPlace.{allBelow, shaftInPlace, arraysInPlace}
 use Rattle.rows.specs.Rows.{rowsFault}
 use Rattle.store.specs.declared.Store.{Store}
-use Rattle.store.specs.Slots.{depth, height, cassettesBelow, cassetteCount}
+use Rattle.store.specs.Slots.{depth, height, cassettesBelow}
 
 -- every number of a list is one that a slot may show
 unfoldable pub allShown : List ℕ → Bool
@@ -38,11 +38,11 @@ unfolding rowsFault
 shaftsFault s zero = 0
 shaftsFault s (suc x) = first (shaftsFault s x) (shaftFault s x)
 
--- "6. More than 255 cassettes."
+-- the first fault of a store value, for every value whatever
 unfoldable pub storeFault : Store → ℕ
 unfolding inPlace shaftsFault
-storeFault s = first (given (not (inPlace s)) 12) (first (shaftsFault s (s .m)) (given (ltb 255 (cassetteCount s)) 6))
+storeFault s = first (given (not (inPlace s)) 12) (shaftsFault s (s .m))
 
--- "a store is accepted if none of 1 to 7 and 12 applies to it as given"
+-- none of 1 to 5, 7 and 12 applies to the store as given (request 3/13)
 abbrev pub Accepted : Store → Type 0
 Accepted s = storeFault s ≡ 0

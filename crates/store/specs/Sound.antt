@@ -8,7 +8,7 @@ use Rattle.stacks.specs.Count.{count}
 use Rattle.marks.specs.Cassettes.{numbers, mayRepeat}
 use Rattle.lifts.specs.Lifting.{mostShafts, mostRows, slotCount}
 use Rattle.store.specs.declared.Store.{Store}
-use Rattle.store.specs.Slots.{depth, height, slot, cassettes, cassetteCount}
+use Rattle.store.specs.Slots.{depth, height, slot, cassettes}
 
 -- the arrays have their lengths and hold what a slot may show, there are at most 16 shafts of at most 16 rows, no height passes its depth, and nothing
 -- is recorded beyond
@@ -28,4 +28,3 @@ pub record Sound (s : Store) : Type 0 where
   pub some-row : (x : ℕ) → x < s .m → 0 < depth s x
   pub no-gap : (x k : ℕ) → k < height s x → slot s x (suc k) ≡ 0 → ⊥
   pub once : (c : ℕ) → mayRepeat c ≡ false → count c (cassettes s) ≤ 1
-  pub few : cassetteCount s ≤ 255

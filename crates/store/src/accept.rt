@@ -10,7 +10,6 @@ use lifts::Slots;
 use lifts::height_at;
 use marks::Taken;
 use marks::Words;
-use marks::count;
 use marks::none;
 use rows::take_rows;
 ghost use mathlib.Core.Path.{_≡_};
@@ -72,9 +71,6 @@ impl Store {
         let mut marks = none();
         if let Verdict::Refused(f) = check_shafts(self.m, self.h, &heights, &slots, &mut marks) {
             return refused(f);
-        }
-        if 255 < count(marks) {
-            return refused(Fault::TooMany);
         }
         Checked {
             verdict: Verdict::Accepted,

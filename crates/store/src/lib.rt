@@ -18,13 +18,12 @@ pub struct Store {
     pub slots: Slots,
 }
 
-// Why a store given as a value is refused: 12, 3, 4, 5, 6.
+// Why a store given as a value is refused: 12, 3, 4, 5.
 pub enum Fault {
     OutOfPlace,
     TooHigh,
     NumberZero,
     Twice,
-    TooMany,
 }
 
 // Whether a store given as a value is accepted.

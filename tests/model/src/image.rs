@@ -32,8 +32,6 @@ fn bit_of(bytes: &[u8], bit: usize) -> u8 {
 }
 
 /// The store that an image shows, or the number of the first fault met.
-///
-/// Number 6, more than 255 cassettes, has no case: the 256th cassette is already a 4 or a 5.
 pub fn read(bytes: &[u8]) -> Result<Store, u8> {
     let mut fields = Fields { bytes, bit: 0 };
     if fields.next(4)? != 0 {

@@ -1,7 +1,7 @@
 //! Random stores up to 16 x 16, damaged images, lists and lent lengths, from fixed seeds, and some inputs in full.
 
-use halyard_model::{Random, image};
-use halyard_outside::calls::Caller;
+use halyard_model::{Random, Store, image};
+use halyard_outside::calls::{Answer, Caller};
 use halyard_outside::{checks, guarded::GUARD, inputs, rounds};
 
 fn rounds(seed: u64, count: usize, round: fn(&mut Caller, &mut Random)) -> Caller {
@@ -98,6 +98,22 @@ fn every_short_image() {
             checks::check(&mut caller, &[first, second]);
             checks::check(&mut caller, &[first, second, random.byte()]);
         }
+    }
+}
+
+/// Every number as the 256th cassette of a store with a slot for it: 0 is a 4, and each other stood earlier.
+#[test]
+fn a_256th_cassette() {
+    let mut caller = Caller::new(33, GUARD);
+    for last in 0..=255 {
+        let cassettes: Vec<u8> = (1..=255).chain([last]).collect();
+        let full = Store {
+            depth: 16,
+            shafts: cassettes.chunks(16).map(<[u8]>::to_vec).collect(),
+        };
+        let number = if last == 0 { 4 } else { 5 };
+        let answer = caller.check(&image::write(&full));
+        assert_eq!(answer, Answer::of(number, 0), "{last}");
     }
 }
 

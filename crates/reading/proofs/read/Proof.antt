@@ -1,12 +1,12 @@
 -- `read` meets its contract: the state at the end of the reading, as an answer.
 use mathlib.Core.Path.{_∙_}
-use Rattle.reading.proofs.Endings.{fault-few, read-refused, read-accepted}
+use Rattle.reading.proofs.Endings.{fault-given, read-refused, read-accepted}
 use borrow.Author.Needs.{needs}
 use Rattle.reading.proofs.read.Statement.{statement}
 use Rattle.reading.proofs.read.Tie as tie
 
 answer-of-requires : tie.Need-answer-of-requires
-answer-of-requires c κs = fault-few (c .before .before .before .before .before .args .image .now) (c .read-body .result) _ (c .before .before .before .read-head .ensures .same ∙ c .read-body .ensures .same)
+answer-of-requires c κs = fault-given (c .before .before .before .before .before .args .image .now) (c .read-body .result) _ (c .before .before .before .read-head .ensures .same ∙ c .read-body .ensures .same)
 
 returns : tie.Need-returns
 returns c = read-refused (c .before .before .before .before .before .before .before .before .args .image .now) (c .before .before .before .read-body .result) _ (c .before .before .before .before .before .before .read-head .ensures .same ∙ c .before .before .before .read-body .ensures .same) _ (c .before .before .answer-of .ensures) (c .if1 .taken)

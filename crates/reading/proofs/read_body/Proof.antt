@@ -5,8 +5,8 @@ use Rattle.reading.proofs.read_body.Statement.{statement}
 use Rattle.reading.proofs.read_body.Tie as tie
 
 returns : tie.Need-returns
-returns c = let a = c .before .before .before .before .before .before .before .before .args in body-ends (a .image .now) (a .m) (a .h) (c .before .before .before .before .before .before .none .ensures) (c .before .before .read-shafts .ensures) (c .before .count .ensures) (c .finished .ensures)
+returns c = let a = c .before .before .before .before .before .before .before .args in body-ends (a .image .now) (a .m) (a .h) (c .before .before .before .before .before .none .ensures) (c .before .read-shafts .ensures) (c .finished .ensures)
 
 pub read-body-spec : {M : Type 1} → statement M
 read-body-spec =
-    tie.close (tie.spec (λ c κs. search needs) (λ c κs. search needs) (λ c κs. search needs) (λ c κs. search needs) returns)
+    tie.close (tie.spec (λ c κs. search needs) (λ c κs. search needs) (λ c κs. search needs) returns)
