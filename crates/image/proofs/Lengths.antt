@@ -4,22 +4,16 @@ use mathlib.Core.Path.{_≡_, refl, _∙_}
 use Prim.Native.Nat.{ℕ, zero, suc, _+_, _*_, _/_, _≤_, _<_}
 use native.Mathlib.Decide.{decLt}
 use native.Mathlib.Nat.{mul-suc, not-suc-le-zero}
-use native.Mathlib.Numerals.{add-one}
 use native.Mathlib.Omega.{arith}
 use lib.ListN.{length, length-append}
 use Rattle.bits.proofs.Widths.{length-bits, length-packed}
 use Rattle.lifts.specs.Lifting.{heightIn}
 use Rattle.store.specs.declared.Store.{Store}
-use Rattle.rows.specs.Rows.{rowsUp}
+use Rattle.rows.proofs.Upward.{rows-length}
 use Rattle.store.specs.Slots.{cassettesBelow, cassettes, cassetteCount}
 use Rattle.store.specs.Accept.{Accepted}
 use Rattle.store.proofs.Acceptance.{accepted-shaped, accepted-few}
 use Rattle.image.specs.Image.{heightWidth, cassetteWidth, headBits, columnBits, columnsBits, shaftsBits, imageBits, imageLength}
-
-pub length-rows : (slots : List ℕ) (x k : ℕ) → length (rowsUp slots x k) ≡ k
-unfolding rowsUp
-length-rows slots x zero = refl
-length-rows slots x (suc k) = simp (length-append, length-rows slots x k, add-one)
 
 pub length-head : (s : Store) → length (headBits s) ≡ 12
 unfolding headBits
@@ -28,7 +22,7 @@ length-head s = simp (length-append, length-bits)
 module _ (heights slots : List ℕ) where
   pub length-shaft : (x : ℕ) → length (columnBits heights slots x) ≡ heightWidth + cassetteWidth * heightIn heights x
   unfolding columnBits
-  length-shaft x = simp (length-append, length-bits heightWidth (heightIn heights x), length-packed, length-rows) (omega arith)
+  length-shaft x = simp (length-append, length-bits heightWidth (heightIn heights x), length-packed, rows-length) (omega arith)
 
   pub length-more : (x : ℕ) → length (columnsBits heights slots (suc x)) ≡ length (columnsBits heights slots x) + (heightWidth + cassetteWidth * heightIn heights x)
   unfolding columnsBits
@@ -47,7 +41,7 @@ length-shafts : (s : Store) (x : ℕ) → length (shaftsBits s x) ≡ heightWidt
 unfolding columnsBits cassettesBelow
 length-shafts s zero = refl
 length-shafts s (suc x) =
-    length-more (s .heights) (s .slots) x ∙ simp (length-append, length-rows) (omega (arith, length-shafts s x, mul-suc heightWidth x))
+    length-more (s .heights) (s .slots) x ∙ simp (length-append, rows-length) (omega (arith, length-shafts s x, mul-suc heightWidth x))
 
 pub length-image : (s : Store) → length (imageBits s) ≡ 12 + (5 * s .m + 8 * cassetteCount s)
 unfolding imageBits cassetteCount cassettes

@@ -61,11 +61,11 @@ pub nothing-marked : Marked noMarks []
 unfolding withMarks count
 nothing-marked = record { marks = refl; below = λ c h. absurd (omega arith); once = λ c r. omega arith }
 
--- no number stands twice in a list that may not
+-- only numbers that may repeat stand twice in a list
 abbrev pub Once : List ℕ → Type 0
 Once l = (c : ℕ) → mayRepeat c ≡ false → count c l ≤ 1
 
--- nor after one more, that stood nowhere unless it may
+-- and so in the list with one more, that stood nowhere unless it may
 pub once-more : (l : List ℕ) (x : ℕ) → Once l → (mayRepeat x ≡ false → count x l ≡ 0) → Once (l ++ (x ∷ []))
 once-more l x p e c r =
     rw (count-last c l x)
@@ -74,6 +74,7 @@ once-more l x p e c r =
       | no q ↦ omega (arith, p c r, ap one (ne-eqb c x q))
     ])
 
+-- the marks of the list with one more
 marked-more : (words l : List ℕ) (c : ℕ) → Marked words l → c < numbers → (mayRepeat c ≡ false → count c l ≡ 0) → Marked (withMark words c) (l ++ (c ∷ []))
 marked-more words l c m h z = record {
   marks = ap (λ (w : List ℕ). withMark w c) (m .marks) ∙ sym (with-more _ l c);

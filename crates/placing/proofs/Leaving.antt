@@ -16,7 +16,7 @@ use Rattle.store.specs.declared.Store.{Store}
 use Rattle.store.specs.Slots.{height, slot, downward, stack}
 use Rattle.store.specs.Sound.{Shaped}
 use Rattle.store.specs.Lifts.{Allowed}
-use Rattle.store.proofs.Rows.{stack-length, stack-top}
+use Rattle.store.proofs.Rows.{downward-length, stack-length, stack-top}
 use Rattle.reach.proofs.Agree.{shaped-within}
 use Rattle.lifts.specs.Carried.{CanCarry}
 use Rattle.moves.specs.Put.{PutIs}
@@ -30,7 +30,7 @@ use Rattle.lifts.specs.Lifting.{heightIn}
 use Rattle.rooms.specs.Frames.{storeOf, depthIn, Fits, Held}
 use Rattle.rooms.specs.Rooms.{SomeOutside}
 use Rattle.placing.specs.Left.{CanLeave, LeftIs}
-use Rattle.rooms.proofs.Bottoms.{rows-length, stack-onto, row-onto, shaped-fits, one-room}
+use Rattle.rooms.proofs.Bottoms.{stack-onto, row-onto, shaped-fits, one-room}
 
 -- what stays of a store while the cassette of row y of b leaves it: the rows under it, and every other shaft
 pub staying : Store → ℕ → ℕ → Stacks
@@ -55,7 +55,7 @@ module _ (f : Frame) (heights slots : List ℕ) (b y : ℕ) where
   staying-other = put-other (stack (storeOf f heights slots)) b _
 
   length-same : length (staying (storeOf f heights slots) b y b) ≡ y - 1
-  length-same = ap length staying-same ∙ rows-length (storeOf f heights slots) b (y - 1)
+  length-same = ap length staying-same ∙ downward-length (storeOf f heights slots) b (y - 1)
 
   pub leaving-first : Held f heights slots → CanLeave f heights b y → (at : ℕ) (came : List ℕ) → Leaving f heights slots b y at came heights slots at came
   leaving-first h q at came = record {
@@ -67,7 +67,7 @@ module _ (f : Frame) (heights slots : List ℕ) (b y : ℕ) where
     };
     over = record {
       stands = row-onto (storeOf f heights slots) b y (q .row) (q .stands);
-      unpassed = omega (arith, length-same, rows-length (storeOf f heights slots) b (y - 1));
+      unpassed = omega (arith, length-same, downward-length (storeOf f heights slots) b (y - 1));
     };
     covered = q .stands;
     steps = steps-none (storeOf f heights slots) at came;
@@ -108,7 +108,7 @@ module _ {f : Frame} {heights₀ slots₀ : List ℕ} {b y at₀ : ℕ} {came he
         lower = simp stack-length at (left-lower (on .moved))
 
         under : length (downward (storeOf f heights₀ slots₀) b (y - 1)) ≡ y - 1
-        under = rows-length (storeOf f heights₀ slots₀) b (y - 1)
+        under = downward-length (storeOf f heights₀ slots₀) b (y - 1)
 
         still : Passed (f .m) (depthIn f) (f .e) (staying (storeOf f heights₀ slots₀) b y) (stack (storeOf f heights′ slots′))
         still = passed-step (u .passed) (on .moved) (omega (arith, u .over .unpassed, under, u .covered, q .row, stack-length (storeOf f heights slots) b))

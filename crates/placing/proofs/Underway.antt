@@ -17,7 +17,7 @@ use Rattle.store.specs.declared.Store.{Store}
 use Rattle.store.specs.Slots.{slot, downward, stack}
 use Rattle.store.specs.Sound.{Shaped}
 use Rattle.store.specs.Lifts.{Allowed}
-use Rattle.store.proofs.Rows.{stack-length}
+use Rattle.store.proofs.Rows.{downward-length, stack-length}
 use Rattle.reach.proofs.Agree.{shaped-within}
 use Rattle.lifts.specs.Carried.{CanCarry}
 use Rattle.moves.specs.Put.{PutIs}
@@ -34,7 +34,7 @@ use Rattle.rooms.specs.Frames.{storeOf, depthIn, Fits, Held}
 use Rattle.rooms.specs.Rooms.{SomeOutside}
 use Rattle.ahead.specs.Ahead.{CanSee, AheadIs, FollowIs}
 use Rattle.placing.specs.Placed.{liftsAhead, CanPlace, PlacedIs}
-use Rattle.rooms.proofs.Bottoms.{rows-length, stack-onto, row-onto, legal-allowed, shaped-fits, heights-are, one-room}
+use Rattle.rooms.proofs.Bottoms.{stack-onto, row-onto, legal-allowed, shaped-fits, heights-are, one-room}
 
 -- what stays of a store while the cassette of row y of a goes to row y′ of b: the rows under the two, and every other shaft
 pub kept : Store → ℕ → ℕ → ℕ → ℕ → Stacks
@@ -75,10 +75,10 @@ module _ (f : Frame) (heights slots : List ℕ) (a y b y′ : ℕ) (h : Held f h
   kept-other = put-two-other (stack (storeOf f heights slots)) a _ b _
 
   length-first : length (kept (storeOf f heights slots) a y b y′ a) ≡ y - 1
-  length-first = ap length kept-first ∙ rows-length (storeOf f heights slots) a (y - 1)
+  length-first = ap length kept-first ∙ downward-length (storeOf f heights slots) a (y - 1)
 
   length-second : length (kept (storeOf f heights slots) a y b y′ b) ≡ y′ - 1
-  length-second = ap length kept-second ∙ rows-length (storeOf f heights slots) b (y′ - 1)
+  length-second = ap length kept-second ∙ downward-length (storeOf f heights slots) b (y′ - 1)
 
   passed : Passed (f .m) (depthIn f) (f .e) (kept (storeOf f heights slots) a y b y′) (stack (storeOf f heights slots))
   passed = record {
@@ -97,7 +97,7 @@ module _ (f : Frame) (heights slots : List ℕ) (a y b y′ : ℕ) (h : Held f h
   over : Over (kept (storeOf f heights slots) a y b y′) (stack (storeOf f heights slots)) (slot (storeOf f heights slots) a y) a (downward (storeOf f heights slots) a (y - 1))
   over = record {
     stands = row-onto (storeOf f heights slots) a y (q .row) (q .stands);
-    unpassed = omega (arith, length-first, rows-length (storeOf f heights slots) a (y - 1));
+    unpassed = omega (arith, length-first, downward-length (storeOf f heights slots) a (y - 1));
   }
 
   rooms : depthIn f a + depthIn f b ≤ f .e + (heightIn heights a + heightIn heights b)
@@ -114,7 +114,7 @@ module _ (f : Frame) (heights slots : List ℕ) (a y b y′ : ℕ) (h : Held f h
       let r : f .e + (heightIn heights a + heightIn heights b) - (depthIn f a + depthIn f b) ≡ n .outside = omega (arith, z .outside) in
       record {
         under = downward (storeOf f heights slots) a (y - 1);
-        row = omega (arith, rows-length (storeOf f heights slots) a (y - 1), q .row);
+        row = omega (arith, downward-length (storeOf f heights slots) a (y - 1), q .row);
         target = omega (arith, length-second, q .some-row);
         placing = record {
           passed = passed;
@@ -123,7 +123,7 @@ module _ (f : Frame) (heights slots : List ℕ) (a y b y′ : ℕ) (h : Held f h
           first = q .first;
           second = q .second;
           place = omega (arith, length-second, q .has-row, q .some-row);
-          covered = omega (arith, z .cover, rows-length (storeOf f heights slots) a (y - 1), stack-length (storeOf f heights slots) a, q .row);
+          covered = omega (arith, z .cover, downward-length (storeOf f heights slots) a (y - 1), stack-length (storeOf f heights slots) a, q .row);
           in-the-way = omega (arith, z .in-way, length-second, stack-length (storeOf f heights slots) b, q .some-row);
           outside = simp stack-length (z .outside);
           way = λ p. omega (arith, z .outside, q .way (rw (k, l) p));

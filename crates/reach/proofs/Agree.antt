@@ -12,6 +12,7 @@ use Rattle.stacks.proofs.Counts.{count-append}
 use Rattle.store.specs.declared.Store.{Store}
 use Rattle.store.specs.Slots.{depth, height, slot, upward, downward, stack, cassettesBelow, cassettes, cassetteCount, emptyCount}
 use Rattle.rows.specs.Rows.{rowsUp, rowsDown}
+use Rattle.rows.proofs.Upward.{rows-length, rows-count}
 use Rattle.store.specs.Sound.{Shaped}
 use Rattle.store.proofs.Rows.{stack-length}
 use Rattle.reach.specs.Rules.{twoShaftReading, floor}
@@ -36,30 +37,20 @@ module _ (s : Store) where
   reading-agrees = upward-then 0 (height s 0) (downward s 1 (height s 1))
 
   -- each number stands as often among the cassettes as in the stacks
-  upward-count : (c x k : ℕ) → count c (upward s x k) ≡ count c (downward s x k)
-  unfolding rowsUp rowsDown count
-  upward-count c x zero = refl
-  upward-count c x (suc k) = simp count-append (omega (arith, upward-count c x k))
-
   below-count : (c x : ℕ) → occurrences x c (stack s) ≡ count c (cassettesBelow s x)
   unfolding occurrences cassettesBelow stack
   below-count c zero = refl
-  below-count c (suc x) = simp count-append (omega (arith, below-count c x, upward-count c x (height s x)))
+  below-count c (suc x) = simp count-append (omega (arith, below-count c x, rows-count (s .slots) x c (height s x)))
 
   pub occurrences-agree : (c : ℕ) → occurrences (s .m) c (stack s) ≡ count c (cassettes s)
   unfolding cassettes
   occurrences-agree c = below-count c (s .m)
 
   -- n and e are the numbers of cassettes and of empty slots of the stacks
-  upward-length : (x k : ℕ) → length (upward s x k) ≡ k
-  unfolding rowsUp
-  upward-length x zero = refl
-  upward-length x (suc k) = simp length-append (omega (arith, upward-length x k))
-
   below-total : (x : ℕ) → total x (stack s) ≡ length (cassettesBelow s x)
   unfolding total cassettesBelow
   below-total zero = refl
-  below-total (suc x) = simp length-append (omega (arith, below-total x, upward-length x (height s x), stack-length s x))
+  below-total (suc x) = simp length-append (omega (arith, below-total x, rows-length (s .slots) x (height s x), stack-length s x))
 
   pub total-agrees : total (s .m) (stack s) ≡ cassetteCount s
   unfolding cassetteCount cassettes

@@ -1,8 +1,8 @@
 -- What every list of lifts keeps: the lowest rows, how often each number stands, that no empty slot lies under a cassette, and so that the store is
 -- accepted.
-use borrow.Author.Tests.{eq-eqb, ne-eqb}
+use borrow.Author.Tests.{eq-eqb}
 use mathlib.Core.List.{List}
-use mathlib.Core.Path.{_≡_, refl, sym, ap, _∙_, subst}
+use mathlib.Core.Path.{_≡_, sym, ap, _∙_, subst}
 use Prim.Native.Nat.{ℕ, zero, suc, _-_, _<_}
 use native.Mathlib.Decide.{ℕ-discrete}
 use native.Mathlib.Omega.{arith}
@@ -14,6 +14,7 @@ use Rattle.store.specs.declared.Store.{Store}
 use Rattle.depths.specs.Depths.{depthBy}
 use Rattle.store.specs.Slots.{depth, SameFrame, height, slot, downward, stack, cassettes, cassetteCount}
 use Rattle.rows.specs.Rows.{rowsDown}
+use Rattle.rows.proofs.Upward.{rows-count, none-shown}
 use Rattle.store.specs.Accept.{Accepted}
 use Rattle.store.specs.Lists.{Leads}
 use Rattle.store.specs.Sound.{Shaped}
@@ -52,14 +53,7 @@ module _ (s : Store) (c x : ℕ) where
 
   -- where no row shows c, none is
   pub none-counted : (n : ℕ) → ((k : ℕ) → k < n → slot s x (suc k) ≡ c → ⊥) → count c (downward s x n) ≡ 0
-  unfolding rowsDown count
-  none-counted zero f = refl
-  none-counted (suc n) f =
-      omega (
-        arith,
-        ap one (ne-eqb c (slot s x (suc n)) (λ e. f n (omega arith) (sym e))),
-        none-counted n (λ k h. f k (omega arith)),
-      )
+  none-counted n f = sym (rows-count (s .slots) x c n) ∙ none-shown (s .slots) x c n f
 
 module _ {s t : Store} {bs : List ℕ} (p : Shaped s) (l : Leads s bs t) where
   pub leads-no-gap : NoGap s → NoGap t

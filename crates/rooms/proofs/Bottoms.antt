@@ -23,11 +23,6 @@ use Rattle.lifts.specs.Lifting.{heightIn}
 use Rattle.rooms.specs.Frames.{storeOf, depthIn, Fits, Held}
 
 module _ (s : Store) (x : ℕ) where
-  pub rows-length : (k : ℕ) → length (downward s x k) ≡ k
-  unfolding rowsDown
-  rows-length zero = refl
-  rows-length (suc k) = ap suc (rows-length k)
-
   pub rows-onto : (n k : ℕ) → k ≤ n → Onto (downward s x k) (downward s x n)
   unfolding rowsDown
   rows-onto zero k h = let e : k ≡ 0 = omega arith in onto-same (ap (downward s x) (sym e))

@@ -13,8 +13,8 @@ use Rattle.rooms.specs.declared.Spot.{Spot}
 use Rattle.lifts.specs.Lifting.{heightIn}
 use Rattle.rooms.specs.Frames.{storeOf, depthIn, Fits, Held}
 use Rattle.placing.specs.Placed.{liftsAhead, CanPlace, PlacedIs}
-use Rattle.rooms.proofs.Bottoms.{rows-length, shaped-fits}
-use Rattle.store.proofs.Rows.{stack-length}
+use Rattle.rooms.proofs.Bottoms.{shaped-fits}
+use Rattle.store.proofs.Rows.{downward-length, stack-length}
 use Rattle.lifts.specs.declared.Shaft.{Shaft}
 use Rattle.agreeing.specs.Agreeing.{wantedIn}
 use Rattle.finding.specs.Finding.{Stands, Somewhere}
@@ -59,7 +59,7 @@ module _ {f : Frame} {tops goal done heights slots : List ℕ} {c : Shaft} (w : 
       plain =
           let z = see ready .1 in
           top-plain (w .halfway .passed) (stands-over f goal done heights slots (ready .stands)) (s .usable) (ap suc (passed-length goal done (c .0)) ∙ k .top) _ _ _
-          (omega (arith, s .unpassed, s .standing, rows-length (storeOf f heights slots) (at .shaft .0) (at .row .0 - 1), stack-length (storeOf f heights slots) (at .shaft .0)))
+          (omega (arith, s .unpassed, s .standing, downward-length (storeOf f heights slots) (at .shaft .0) (at .row .0 - 1), stack-length (storeOf f heights slots) (at .shaft .0)))
           (omega (arith, passed-length goal done (c .0), done-now w (c .0), stack-length (storeOf f heights slots) (c .0)))
           (omega (arith, z .rooms, stack-length (storeOf f heights slots) (at .shaft .0), stack-length (storeOf f heights slots) (c .0)))
 

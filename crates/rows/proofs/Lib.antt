@@ -1,2 +1,3 @@
+pub mod Upward
 pub mod Walk
 pub mod Walked

@@ -12,6 +12,7 @@ use Rattle.stacks.proofs.Sums.{everywhere}
 use Rattle.stacks.proofs.PlacingLaws.{left-most}
 use Rattle.store.specs.Slots.{downward, stack}
 use Rattle.store.proofs.Played.{leads-run}
+use Rattle.store.proofs.Rows.{downward-length}
 use Rattle.reach.proofs.Agree.{shaped-within}
 use Rattle.moves.proofs.Carrying.{went-then, went-within}
 use Rattle.rooms.specs.declared.Frame.{Frame}
@@ -19,7 +20,7 @@ use Rattle.rooms.specs.declared.Spot.{Spot}
 use Rattle.lifts.specs.Lifting.{heightIn}
 use Rattle.rooms.specs.Frames.{storeOf, depthIn, Held}
 use Rattle.placing.specs.Placed.{liftsAhead, CanPlace, PlacedIs}
-use Rattle.rooms.proofs.Bottoms.{rows-length, stack-onto}
+use Rattle.rooms.proofs.Bottoms.{stack-onto}
 use Rattle.agreeing.specs.Agreeing.{wantedIn}
 use Rattle.turns.specs.declared.Owed.{Owed}
 use Rattle.turns.specs.declared.Turned.{Turned}
@@ -38,8 +39,8 @@ module _ {f : Frame} {tops goal done heights slots : List ℕ} {at to : Spot} (r
       rw k
       (onto-all
       (onto-both (r .way .halfway .passed .onto b) (stack-onto (storeOf f heights slots) b (heightIn done b) low)
-      (omega (arith, passed-length goal done b, rows-length (storeOf f heights slots) b (heightIn done b))))
-      (omega (arith, passed-length goal done b, rows-length (storeOf f heights slots) b (heightIn done b))))
+      (omega (arith, passed-length goal done b, downward-length (storeOf f heights slots) b (heightIn done b))))
+      (omega (arith, passed-length goal done b, downward-length (storeOf f heights slots) b (heightIn done b))))
 
   -- the rows under the cassette stand on those passed
   under-at : Onto (passedRows goal done (at .shaft .0)) (downward (storeOf f heights slots) (at .shaft .0) (at .row .0 - 1))

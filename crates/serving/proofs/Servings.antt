@@ -13,6 +13,7 @@ use Rattle.stacks.proofs.RoundLaws.{in-place}
 use Rattle.store.specs.Slots.{downward, stack}
 use Rattle.store.specs.Sound.{Shaped}
 use Rattle.store.proofs.Played.{leads-run}
+use Rattle.store.proofs.Rows.{downward-length}
 use Rattle.reach.proofs.Agree.{shaped-within}
 use Rattle.moves.proofs.Carrying.{went-none, went-then, went-within}
 use Rattle.rooms.specs.declared.Frame.{Frame}
@@ -20,7 +21,6 @@ use Rattle.placing.specs.declared.leave.Off.{Off}
 use Rattle.lifts.specs.Lifting.{heightIn}
 use Rattle.rooms.specs.Frames.{storeOf, depthIn, Held}
 use Rattle.placing.specs.Left.{CanLeave, LeftIs}
-use Rattle.rooms.proofs.Bottoms.{rows-length}
 use Rattle.choices.specs.declared.Round.{Round}
 use Rattle.agreeing.specs.Agreeing.{wantedIn}
 use Rattle.choices.specs.Choices.{RoundFor}
@@ -63,7 +63,7 @@ module _ {f : Frame} {tops goal done heights slots : List ℕ} {q : Round} (w : 
           → Onto (wantedIn goal done (q .to .0) ∷ passedRows goal done (q .to .0)) (stack (storeOf f heights slots) (q .to .0))
       on-top o =
           in-place (w .halfway) (subst (λ (x : ℕ). Over (passedRows goal done) (stack (storeOf f heights slots)) (wantedIn goal done (q .to .0)) x (downward (storeOf f heights slots) (q .from .shaft .0) (q .from .row .0 - 1))) s o)
-          (omega (arith, passed-length goal done (q .to .0), rows-length (storeOf f heights slots) (q .from .shaft .0) (q .from .row .0 - 1)))
+          (omega (arith, passed-length goal done (q .to .0), downward-length (storeOf f heights slots) (q .from .shaft .0) (q .from .row .0 - 1)))
 
   module _ (count : ℕ) (came : List ℕ) (most : count + (3 * deepest f + 4) ≤ length came) (row : ℕ) (e : row ≡ heightIn done (q .to .0) + 1) where
     rows-most : (x : ℕ) → heightIn heights x ≤ deepest f

@@ -1,9 +1,9 @@
 -- A walk without a fault met no number twice that may not stand twice, and its cassettes are what slots may show; and where no such number stands
 -- twice, none is 0 and no height passes the depth, the walk meets no fault.
-use borrow.Author.Tests.{eq-eqb, ne-eqb}
+use borrow.Author.Tests.{eq-eqb}
 use mathlib.Core.Bool.{false}
 use mathlib.Core.List.{List, [], _∷_, _++_, append-nil}
-use mathlib.Core.Path.{_≡_, refl, sym, ap, _∙_}
+use mathlib.Core.Path.{_≡_, refl, ap, _∙_}
 use Prim.Native.Nat.{ℕ, zero, suc, _+_, _*_, _≤_, _<_}
 use native.Mathlib.Decide.{decLt}
 use native.Mathlib.Omega.{arith}
@@ -19,6 +19,7 @@ use Rattle.store.specs.declared.Store.{Store}
 use Rattle.store.specs.Slots.{depth, height, slot, upward, cassettesBelow}
 use Rattle.rows.specs.Rows.{rowsUp, rowsFault}
 use Rattle.store.specs.Accept.{shaftFault, shaftsFault}
+use Rattle.rows.proofs.Upward.{none-shown}
 use Rattle.rows.proofs.Walk.{row-after, row-passed}
 use Rattle.store.proofs.Walk.{shaft-passed, by-rows, not-too-high}
 
@@ -65,18 +66,11 @@ module _ (s : Store) where
       (by-rows s x (h x) ∙ rows-pass (cassettesBelow s x) x (height s x) (n x) p)
 
 -- a number that no row up to a height shows stands nowhere
-module _ (s : Store) (c : ℕ) (absent : (x k : ℕ) → k < height s x → slot s x (suc k) ≡ c → ⊥) where
-  none-upward : (x k : ℕ) → k ≤ height s x → count c (upward s x k) ≡ 0
-  unfolding rowsUp count
-  none-upward x zero h = refl
-  none-upward x (suc k) h =
-      let n = ne-eqb c (slot s x (suc k)) (λ e. absent x k (omega arith) (sym e)) in
-      omega (arith, none-upward x k (omega arith), count-last c (upward s x k) (slot s x (suc k)), ap one n)
-
-  pub none-below : (x : ℕ) → count c (cassettesBelow s x) ≡ 0
-  unfolding cassettesBelow count
-  none-below zero = refl
-  none-below (suc x) = omega (arith, none-below x, none-upward x (height s x) (omega arith), count-append c (cassettesBelow s x) (upward s x (height s x)))
+pub none-below : (s : Store) (c : ℕ) → ((x k : ℕ) → k < height s x → slot s x (suc k) ≡ c → ⊥) → (x : ℕ) → count c (cassettesBelow s x) ≡ 0
+unfolding cassettesBelow count
+none-below s c f zero = refl
+none-below s c f (suc x) =
+    omega (arith, none-below s c f x, none-shown (s .slots) x c (height s x) (f x), count-append c (cassettesBelow s x) (upward s x (height s x)))
 
 -- the cassettes of a store are what its slots may show
 pub cassettes-below : (s : Store) → ((i : ℕ) → getD (s .slots) i 0 < numbers) → (x : ℕ) → Below numbers (cassettesBelow s x)

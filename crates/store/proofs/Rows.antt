@@ -23,7 +23,7 @@ unfolding shown
 slot-numbered s x zero b = omega arith
 slot-numbered s x (suc k) b = b (16 * x + k)
 
-downward-length : (s : Store) (x n : ℕ) → length (downward s x n) ≡ n
+pub downward-length : (s : Store) (x n : ℕ) → length (downward s x n) ≡ n
 unfolding rowsDown
 downward-length s x zero = refl
 downward-length s x (suc n) = ap suc (downward-length s x n)

@@ -13,7 +13,7 @@ use Rattle.stacks.proofs.PlacingLaws.{two-rooms, three-rooms, entered-higher, o
 use Rattle.stacks.proofs.RoundLaws.{turn-legal, turned}
 use Rattle.store.specs.Slots.{downward, stack}
 use Rattle.store.specs.Lifts.{Allowed}
-use Rattle.store.proofs.Rows.{stack-length}
+use Rattle.store.proofs.Rows.{downward-length, stack-length}
 use Rattle.lifts.specs.Carried.{CanCarry}
 use Rattle.moves.specs.Put.{PutIs}
 use Rattle.store.proofs.Lifting.{can-carry}
@@ -24,7 +24,7 @@ use Rattle.ahead.specs.declared.Ahead.{Ahead}
 use Rattle.lifts.specs.Lifting.{heightIn}
 use Rattle.rooms.specs.Frames.{storeOf, depthIn, Fits}
 use Rattle.ahead.specs.Ahead.{CanSee, AheadIs}
-use Rattle.rooms.proofs.Bottoms.{rows-length, legal-allowed, shaped-fits}
+use Rattle.rooms.proofs.Bottoms.{legal-allowed, shaped-fits}
 use Rattle.agreeing.specs.Agreeing.{wantedIn}
 use Rattle.finding.specs.Finding.{Stands}
 use Rattle.turns.specs.declared.Owed.{Owed}
@@ -151,7 +151,7 @@ module _ {f : Frame} {tops goal done heights slots : List ℕ} {at to : Spot} (r
         over-low = record { stands = over .stands; unpassed = omega (arith, over .unpassed, passed-length goal done (at .shaft .0), passed-length goal done′ (at .shaft .0), same-a) }
 
         under : length (downward (storeOf f heights slots) (at .shaft .0) (at .row .0 - 1)) ≡ at .row .0 - 1
-        under = rows-length (storeOf f heights slots) (at .shaft .0) (at .row .0 - 1)
+        under = downward-length (storeOf f heights slots) (at .shaft .0) (at .row .0 - 1)
 
         covered : n .cover + suc (length (downward (storeOf f heights slots) (at .shaft .0) (at .row .0 - 1))) ≡ length (stack (storeOf f heights slots) (at .shaft .0))
         covered = omega (arith, v .cover, under, r .stands .unpassed, stack-length (storeOf f heights slots) (at .shaft .0))

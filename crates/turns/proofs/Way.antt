@@ -14,17 +14,17 @@ use Rattle.stacks.proofs.RoundLaws.{halfway-after, halfway-less, halfway-more, 
 use Rattle.store.specs.declared.Store.{Store}
 use Rattle.store.specs.Slots.{height, slot, downward, stack, held}
 use Rattle.rows.specs.Rows.{rowsDown}
-use Rattle.store.proofs.Rows.{stack-length}
+use Rattle.store.proofs.Rows.{downward-length, stack-length}
 use Rattle.rooms.specs.declared.Frame.{Frame}
 use Rattle.lifts.specs.Lifting.{heightIn}
 use Rattle.rooms.specs.Frames.{storeOf, depthIn, Held}
-use Rattle.rooms.proofs.Bottoms.{rows-length, rows-onto, stack-onto, row-onto}
+use Rattle.rooms.proofs.Bottoms.{rows-onto, stack-onto, row-onto}
 use Rattle.agreeing.specs.Agreeing.{wantedIn}
 use Rattle.finding.specs.Finding.{Stands}
 use Rattle.turns.specs.Turning.{passedRows, OnTheWay}
 
 pub passed-length : (goal done : List ℕ) (x : ℕ) → length (passedRows goal done x) ≡ heightIn done x
-passed-length goal done x = rows-length (held 0 0 [] goal) x (heightIn done x)
+passed-length goal done x = downward-length (held 0 0 [] goal) x (heightIn done x)
 
 -- a cassette that stands on p in the stack of x shows in its row
 shows-in : (s : Store) (x v k : ℕ) (p : List ℕ) → Onto (v ∷ p) (stack s x) → length p ≡ k → slot s x (suc k) ≡ v
@@ -32,7 +32,7 @@ unfolding rowsDown
 shows-in s x v k p o e =
     let low : suc k ≤ height s x = omega (arith, onto-length o, stack-length s x) in
     let same : v ∷ p ≡ slot s x (suc k) ∷ downward s x k
-    = onto-all (onto-both (stack-onto s x (suc k) low) o (omega (arith, rows-length s x (suc k)))) (omega (arith, rows-length s x k)) in
+    = onto-all (onto-both (stack-onto s x (suc k) low) o (omega (arith, downward-length s x (suc k)))) (omega (arith, downward-length s x k)) in
     cc (same)
 
 module _ (f : Frame) (goal done heights slots : List ℕ) {v a y : ℕ} where
@@ -40,7 +40,7 @@ module _ (f : Frame) (goal done heights slots : List ℕ) {v a y : ℕ} where
       → Over (passedRows goal done) (stack (storeOf f heights slots)) v a (downward (storeOf f heights slots) a (y - 1))
   stands-over t = record {
     stands = rw (t .shows) at (row-onto (storeOf f heights slots) a y (omega (arith, t .unpassed)) (t .standing));
-    unpassed = omega (arith, passed-length goal done a, rows-length (storeOf f heights slots) a (y - 1), t .unpassed);
+    unpassed = omega (arith, passed-length goal done a, downward-length (storeOf f heights slots) a (y - 1), t .unpassed);
   }
 
   pub over-stands : {p : List ℕ} → Over (passedRows goal done) (stack (storeOf f heights slots)) v a p → Usable (f .m) a → y ≡ suc (length p) → Stands f heights slots done v a y
@@ -73,7 +73,7 @@ module _ {f : Frame} {tops goal done heights slots : List ℕ} (w : OnTheWay f t
   pub rows-under : {v a y : ℕ} → Stands f heights slots done v a y → Onto (passedRows goal done a) (downward (storeOf f heights slots) a (y - 1))
   rows-under {a = a} {y} t =
       onto-both (w .halfway .passed .onto a) (stack-onto (storeOf f heights slots) a (y - 1) (omega (arith, t .standing)))
-      (omega (arith, passed-length goal done a, rows-length (storeOf f heights slots) a (y - 1), t .unpassed))
+      (omega (arith, passed-length goal done a, downward-length (storeOf f heights slots) a (y - 1), t .unpassed))
 
   -- the wanted cassette is somewhere
   pub somewhere : (b : ℕ) → Usable (f .m) b → heightIn done b < heightIn tops b

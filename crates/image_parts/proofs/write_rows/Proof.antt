@@ -9,7 +9,7 @@ use Rattle.pens.specs.Pens.{Pushes}
 use Rattle.bits.proofs.Widths.{length-packed}
 use Rattle.rows.specs.Rows.{rowsUp}
 use Rattle.image.specs.Image.{cassetteWidth}
-use Rattle.image.proofs.Lengths.{length-rows}
+use Rattle.rows.proofs.Upward.{rows-length}
 use Rattle.image_parts.proofs.PartLaws.{no-rows, row-more}
 use Rattle.image_parts.proofs.write_rows.Statement.{statement}
 use Rattle.image_parts.proofs.write_rows.Tie as tie
@@ -24,7 +24,7 @@ push-requires : tie.Need-push-requires Inv-loop μ-loop
 push-requires c κs =
     let a = c .before .before .before .before .before .args in
     let k = c .before .before .before .loop in
-    let n : length (packed cassetteWidth (rowsUp (a .slots .now) (a .x) (k .k))) ≡ k .k * 8 = simp (length-packed, length-rows) in
+    let n : length (packed cassetteWidth (rowsUp (a .slots .now) (a .x) (k .k))) ≡ k .k * 8 = simp (length-packed, rows-length) in
     omega arith
 
 loop-again : tie.Need-loop-again Inv-loop μ-loop
