@@ -1,10 +1,10 @@
-// The depths of the shafts (document 01, "The store"), and what follows from them: the empty slots, the list space, and which slots there are.
+// The depths of the shafts (document 01, "The store"), and what follows from them: how many slots there are and which, and the list space.
 use lifts::Row;
 use lifts::Shaft;
 ghost use mathlib.Core.Path.{_≡_};
-ghost use Prim.Native.Nat.{_-_, _≤_, _<_};
+ghost use Prim.Native.Nat.{_≤_, _<_};
 ghost use Rattle.stacks.specs.Count.{sum, greatest};
-ghost use Rattle.lifts.specs.Lifting.{mostShafts, slotCount};
+ghost use Rattle.lifts.specs.Lifting.{slotCount};
 ghost use Rattle.depths.specs.Depths.{depthBy, DepthsFit, spaceFor, slotThere};
 
 // "all of depth h": the depth of a shaft.
@@ -22,13 +22,11 @@ fn deepest_of(m: u8, h: u8) -> u8
     h
 }
 
-// e: how many slots of m shafts that hold n cassettes are empty.
-pub fn empty_slots(m: u8, h: u8, n: usize) -> usize
-    requires { ⌜ (m ≤ mostShafts) × DepthsFit h ⌝ }
-    requires { ⌜ n ≤ sum m (depthBy h) ⌝ }
-    ensures { λ r. ⌜ r ≡ sum m (depthBy h) - n ⌝ }
+// How many slots m shafts have. In 16 bits for every m and h: 255 × 255 is less than 65,536.
+pub fn slots_of(m: u8, h: u8) -> u16
+    ensures { λ r. ⌜ r ≡ sum m (depthBy h) ⌝ }
 {
-    m as usize * (h as usize) - n
+    m as u16 * (h as u16)
 }
 
 // "The list space needed is 4hn + 8n bytes"

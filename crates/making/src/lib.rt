@@ -1,6 +1,6 @@
 // The list made, for two stores that can be compared and a goal that can be reached.
 use agreeing::agreeing;
-use depths::empty_slots;
+use empties::empty_slots;
 use lifts::Shaft;
 use lifts::Slots;
 use lifts::slot_at;
@@ -9,10 +9,9 @@ use moves::put_shift;
 use rooms::Frame;
 use rounds::play_all;
 use store::Store;
-ghost use mathlib.Core.Path.{_≡_};
 ghost use Prim.Native.Nat.{_≤_, _<_};
 ghost use lib.ListN.{length};
-ghost use Rattle.store.specs.Slots.{cassetteCount, listSpace};
+ghost use Rattle.store.specs.Slots.{listSpace};
 ghost use Rattle.reach.specs.Pairs.{Comparable};
 ghost use Rattle.reach.specs.Rules.{Rule};
 ghost use Rattle.making.specs.Made.{MadeIs};
@@ -48,16 +47,15 @@ fn hints_of(m: u8, slots: &Slots) -> Hints
 }
 
 // With three shafts or more: rounds of direct placement, from the rows that agree already.
-fn make_three(start: Store, goal: Store, n: usize, out: &mut [u8]) -> usize
+fn make_three(start: Store, goal: Store, out: &mut [u8]) -> usize
     requires { ⌜ Comparable start goal ⌝ }
     requires { ⌜ (2 < start .m) × Rule start goal ⌝ }
-    requires { ⌜ n ≡ cassetteCount start ⌝ }
     requires { ⌜ listSpace start ≤ length (now out) ⌝ }
     ensures { λ r. ⌜ MadeIs start goal (now (out .entry)) r (now (out .exit)) ⌝ }
 {
     let m = start.m;
     let h = start.h;
-    let e = empty_slots(m, h, n);
+    let e = empty_slots(start) as usize;
     let f = Frame { m, h, e };
     let tops = goal.heights;
     let aims = goal.slots;
@@ -78,15 +76,14 @@ fn make_three(start: Store, goal: Store, n: usize, out: &mut [u8]) -> usize
 }
 
 // The list, by the number of shafts.
-pub fn make(start: Store, goal: Store, n: usize, out: &mut [u8]) -> usize
+pub fn make(start: Store, goal: Store, out: &mut [u8]) -> usize
     requires { ⌜ Comparable start goal ⌝ }
     requires { ⌜ Rule start goal ⌝ }
-    requires { ⌜ n ≡ cassetteCount start ⌝ }
     requires { ⌜ listSpace start ≤ length (now out) ⌝ }
     ensures { λ r. ⌜ MadeIs start goal (now (out .entry)) r (now (out .exit)) ⌝ }
 {
     if start.m <= 2 {
         return make_two(start, goal, out);
     }
-    make_three(start, goal, n, out)
+    make_three(start, goal, out)
 }

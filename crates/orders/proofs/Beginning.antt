@@ -2,24 +2,18 @@
 -- makes of each.
 use mathlib.Core.Bool.{Bool, true, false, not}
 use mathlib.Core.List.{List}
-use mathlib.Core.Path.{_≡_, refl, sym, ap, _∙_}
-use Prim.Native.Nat.{ℕ, _-_, _≤_}
+use mathlib.Core.Path.{_≡_, refl, sym, _∙_}
+use Prim.Native.Nat.{ℕ}
 use lib.Dec.{T as Holds}
-use Rattle.stacks.specs.Count.{sum}
 use Rattle.stacks.proofs.Deciding.{holds, fails}
-use Rattle.marks.specs.Marking.{markCount}
-use Rattle.lifts.specs.Lifting.{mostShafts}
-use Rattle.depths.specs.Depths.{DepthsFit}
 use Rattle.store.specs.declared.Store.{Store}
 use Rattle.store.specs.declared.Checked.{Checked}
 use Rattle.store.specs.declared.Fault.{Fault}
 use Rattle.store.specs.declared.Verdict.the-variants.{Accepted, Refused}
 use Rattle.store.specs.Accept.{storeFault}
 use Rattle.store.specs.Promises.{CheckIs}
-use Rattle.store.specs.Slots.{depth, cassettes, cassetteCount}
-use Rattle.store.proofs.Acceptance.{accepted-shaped, accepted-count}
+use Rattle.store.specs.Slots.{cassettes, emptyCount}
 use Rattle.store.proofs.Checks.{accepted-none, refused-one, fault-one}
-use Rattle.reach.proofs.Empties.{count-fits, empty-counted}
 use Rattle.uncovering.specs.Promises.{Ready}
 use Rattle.orders.specs.declared.Order.{Order}
 use Rattle.orders.specs.declared.Begun.{Begun}
@@ -31,25 +25,10 @@ module _ (s : Store) (r : Checked) (p : CheckIs (storeFault s) (cassettes s) r) 
       let n : storeFault s ≡ 0 → ⊥ = λ z. fault-one f (sym (refused-one f _ _ r p e) ∙ z) in
       record { verdict = p .verdict; accepted = fails n; empty = λ z. absurd (n z); none = λ z. refl }
 
-  module _ (e : r .verdict ≡ Accepted) (n : ℕ) (c : n ≡ markCount (r .marks)) where
-    accepted : storeFault s ≡ 0
-    accepted = accepted-none _ _ r p e .0
-
-    counted : n ≡ cassetteCount s
-    counted = c ∙ ap markCount (accepted-none _ _ r p e .1) ∙ accepted-count s accepted
-
-    -- what `empty_slots` requires
-    pub fits : ((s .m ≤ mostShafts) × DepthsFit (s .h)) × (n ≤ sum (s .m) (depth s))
-    fits = count-fits s n (accepted-shaped s accepted) counted
-
-    pub begun-accepted : (k : ℕ) → k ≡ sum (s .m) (depth s) - n → BegunIs s (record { accepted = true; verdict = r .verdict; e = k })
-    begun-accepted k u =
-        record {
-          verdict = p .verdict;
-          accepted = holds accepted;
-          empty = λ z. empty-counted s n k counted u;
-          none = λ z. absurd (z accepted);
-        }
+  pub begun-accepted : r .verdict ≡ Accepted → (k : ℕ) → k ≡ emptyCount s → BegunIs s (record { accepted = true; verdict = r .verdict; e = k })
+  begun-accepted e k u =
+      let a : storeFault s ≡ 0 = accepted-none _ _ r p e .0 in
+      record { verdict = p .verdict; accepted = holds a; empty = λ z. u; none = λ z. absurd (z a) }
 
 -- what the test of `accepted` says
 is-true : (t : Bool) → Holds t → t ≡ true

@@ -1,9 +1,8 @@
 // Orders (document 02, 1/13): "a lent row of records that each name a cassette and receive its answer". `answered` does the work for one of them. The
 // functions over the row are proved by a walk of their code, by hand.
-use depths::empty_slots;
+use empties::empty_slots;
 use lifts::Heights;
 use lifts::Slots;
-use marks::count;
 use store::Store;
 use store::Verdict;
 use uncovering::fewest_lifts;
@@ -79,11 +78,10 @@ fn begin(s: Store) -> Begun
             e: 0,
         };
     }
-    let marks = checked.marks;
     Begun {
         accepted: true,
         verdict,
-        e: empty_slots(s.m, s.h, count(marks)),
+        e: empty_slots(s) as usize,
     }
 }
 

@@ -51,6 +51,6 @@ pub fn plan_pair(start: Store, goal: Store, n: usize, out: &mut [u8]) -> Planned
     if !rule_holds(start, goal, n) {
         return refused(PlanAnswer::Unreachable, out);
     }
-    let count = make(start, goal, n, out);
+    let count = make(start, goal, out);
     listed(count)
 }

@@ -4,17 +4,18 @@ use mathlib.Core.Logic.{_↔_}
 use mathlib.Core.Path.{_≡_, refl, sym, ap, _∙_}
 use Prim.Native.Nat.{ℕ, zero, suc, _+_, _-_, _≤_}
 use native.Mathlib.Omega.{arith}
-use lib.ListN.{length, drop, length-append}
+use lib.ListN.{length, drop}
 use Rattle.stacks.specs.Run.{Within}
 use Rattle.stacks.specs.Count.{count, occurrences, total, empties, lowest}
 use Rattle.stacks.specs.TwoStackReading.{twoStackReading}
 use Rattle.stacks.proofs.Counts.{count-append}
+use Rattle.stacks.proofs.Sums.{sum-equal}
 use Rattle.store.specs.declared.Store.{Store}
 use Rattle.store.specs.Slots.{depth, height, slot, upward, downward, stack, cassettesBelow, cassettes, cassetteCount, emptyCount}
 use Rattle.rows.specs.Rows.{rowsUp, rowsDown}
-use Rattle.rows.proofs.Upward.{rows-length, rows-count}
+use Rattle.rows.proofs.Upward.{rows-count}
 use Rattle.store.specs.Sound.{Shaped}
-use Rattle.store.proofs.Rows.{stack-length}
+use Rattle.store.proofs.Rows.{stack-length, heights-counted}
 use Rattle.reach.specs.Rules.{twoShaftReading, floor}
 
 module _ (s : Store) where
@@ -47,14 +48,9 @@ module _ (s : Store) where
   occurrences-agree c = below-count c (s .m)
 
   -- n and e are the numbers of cassettes and of empty slots of the stacks
-  below-total : (x : ℕ) → total x (stack s) ≡ length (cassettesBelow s x)
-  unfolding total cassettesBelow
-  below-total zero = refl
-  below-total (suc x) = simp length-append (omega (arith, below-total x, rows-length (s .slots) x (height s x), stack-length s x))
-
   pub total-agrees : total (s .m) (stack s) ≡ cassetteCount s
-  unfolding cassetteCount cassettes
-  total-agrees = below-total (s .m)
+  unfolding total
+  total-agrees = sum-equal (s .m) (λ i. length (stack s i)) (height s) (λ i h. stack-length s i) ∙ heights-counted s
 
   pub empties-agree : empties (s .m) (depth s) (stack s) ≡ emptyCount s
   unfolding empties emptyCount

@@ -1,5 +1,4 @@
 pub mod Agree
-pub mod Empties
 pub mod Lasting
 pub mod OnePlace
 pub mod Reachability

@@ -1,6 +1,6 @@
 // The rules of document 01, "Which goals can be reached", as tests of two stores that can be compared.
 use depths::depth_of;
-use depths::empty_slots;
+use empties::empty_slots;
 use lifts::Slots;
 use lifts::slot_at;
 use marks::Cassette;
@@ -95,7 +95,7 @@ pub fn rule_holds(start: Store, goal: Store, n: usize) -> bool
     if start.m <= 2 {
         return same_reading(start, goal, n);
     }
-    let e = empty_slots(start.m, start.h, n);
+    let e = empty_slots(start) as usize;
     let a = start.slots;
     let b = goal.slots;
     same_floors(start.m, start.h, e, &a, &b)

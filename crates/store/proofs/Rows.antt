@@ -1,15 +1,17 @@
--- The rows of a shaft: that they show what a slot may show, and that the rows up to the height make the stack.
+-- The rows of a shaft: that they show what a slot may show, that the rows up to the height make the stack, and that the heights of the shafts add up to n.
 use mathlib.Core.List.{List, _∷_}
 use mathlib.Core.Path.{_≡_, refl, ap, subst}
 use Prim.Native.Nat.{ℕ, zero, suc, _+_, _*_, _<_}
 use native.Mathlib.Decide.{decLt}
 use native.Mathlib.Omega.{arith}
-use lib.ListN.{length, getD}
+use lib.ListN.{length, length-append, getD}
+use Rattle.stacks.specs.Count.{sum}
 use Rattle.marks.specs.Cassettes.{numbers}
 use Rattle.lifts.specs.Lifting.{shown, placedAt}
 use Rattle.store.specs.declared.Store.{Store}
-use Rattle.store.specs.Slots.{height, slot, downward, stack}
+use Rattle.store.specs.Slots.{height, slot, downward, stack, cassettesBelow, cassettes, cassetteCount}
 use Rattle.rows.specs.Rows.{rowsDown}
+use Rattle.rows.proofs.Upward.{rows-length}
 use Rattle.store.proofs.Typed.{below-set}
 
 -- slots of which one row is written
@@ -53,3 +55,13 @@ rows-same s t x (suc n) k e h =
       | yes i ↦ rows-same s t x n k (cc) i
       | no i ↦ (let u : k ≡ n = omega arith in rw u (cc))
     ]
+
+-- the heights of the shafts add up to the count of cassettes
+below-counted : (s : Store) (x : ℕ) → sum x (height s) ≡ length (cassettesBelow s x)
+unfolding sum cassettesBelow
+below-counted s zero = refl
+below-counted s (suc x) = simp length-append (omega (arith, below-counted s x, rows-length (s .slots) x (height s x)))
+
+pub heights-counted : (s : Store) → sum (s .m) (height s) ≡ cassetteCount s
+unfolding cassetteCount cassettes
+heights-counted s = below-counted s (s .m)

@@ -7,7 +7,7 @@ use Rattle.making.proofs.make.Tie as tie
 make-two-requires : tie.Need-make-two-requires
 make-two-requires c κs =
     let p = c .before .before .before .before .pre in
-    (p .0, ((omega arith, p .1 .0), p .1 .1 .1))
+    (p .0, ((omega arith, p .1 .0), p .1 .1))
 
 returns : tie.Need-returns
 returns c = c .before .before .make-two .ensures

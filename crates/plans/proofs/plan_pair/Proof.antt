@@ -46,7 +46,7 @@ make-requires c κs =
     let r = c .before in
     let e = r .before .before in
     let s = e .before .before .before in
-    (s .pre .0, (r .before .rule-holds .ensures .so (not-false _ (r .if2 .left)), (s .pre .1, enough e)))
+    (s .pre .0, (r .before .rule-holds .ensures .so (not-false _ (r .if2 .left)), enough e))
 
 returns-3 : tie.Need-returns-3
 returns-3 c =

@@ -1,7 +1,7 @@
 -- `rule_holds` meets its contract: the readings for one or two shafts, the floors for three or more.
+use borrow.Author.Needs.{needs}
 use Rattle.stacks.proofs.Deciding.{decides-as}
 use Rattle.store.proofs.Acceptance.{accepted-shaped}
-use Rattle.reach.proofs.Empties.{count-fits, empty-counted}
 use Rattle.rules.proofs.RuleLaws.{both-hold, few-rule, more-rule}
 use Rattle.rules.proofs.rule_holds.Statement.{statement}
 use Rattle.rules.proofs.rule_holds.Tie as tie
@@ -16,10 +16,6 @@ returns c =
     let e = few-rule _ _ (c .before .before .before .pre .0) (c .before .if1 .taken) in
     decides-as (e .0) (e .1) (c .same-reading .ensures)
 
-empty-slots-requires : tie.Need-empty-slots-requires
-empty-slots-requires c κs =
-    count-fits _ _ (accepted-shaped _ (c .before .before .pre .0 .start)) (c .before .before .pre .1)
-
 same-floors-requires : tie.Need-same-floors-requires
 same-floors-requires c κs =
     let p = accepted-shaped _ (c .before .before .before .before .before .before .before .pre .0 .start) in
@@ -28,10 +24,9 @@ same-floors-requires c κs =
 returns-2 : tie.Need-returns-2
 returns-2 c =
     let p = c .before .before .before .before .before .before .before .before .pre in
-    let s = c .before .before .before .before .before .before .before .before .args .start in
-    let e = more-rule _ _ (p .0) _ (empty-counted s _ _ (p .1) (c .before .before .before .before .before .empty-slots .ensures)) (c .before .before .before .before .before .before .if1 .left) in
+    let e = more-rule _ _ (p .0) _ (c .before .before .before .before .before .empty-slots .ensures) (c .before .before .before .before .before .before .if1 .left) in
     decides-as (e .0) (e .1) (c .same-floors .ensures)
 
 pub rule-holds-spec : {M : Type 1} → statement M
 rule-holds-spec =
-    tie.close (tie.spec same-reading-requires returns empty-slots-requires same-floors-requires returns-2)
+    tie.close (tie.spec same-reading-requires returns (λ c κs. search needs) (λ c. search needs) same-floors-requires returns-2)

@@ -1,0 +1,42 @@
+-- `cassettes_in` meets its contract. The invariant: n is the sum of the heights passed, of which none is more than 255.
+use borrow.Author.Needs.{needs}
+use mathlib.Core.Path.{_≡_, refl, ap, _∙_}
+use Prim.Native.Nat.{ℕ, _+_, _-_, _*_, _≤_}
+use native.Mathlib.Numerals.{add-one}
+use native.Mathlib.Omega.{arith}
+use Rattle.stacks.specs.Count.{sum}
+use Rattle.lifts.specs.Lifting.{heightIn}
+use Rattle.empties.proofs.cassettes_in.Statement.{statement}
+use Rattle.empties.proofs.cassettes_in.Tie as tie
+
+abbrev Inv-loop : tie.InvT-loop
+Inv-loop m heights n₀ x₀ n x = (x ≤ m) × (n ≡ sum x (heightIn heights)) × (n ≤ 255 * x)
+
+abbrev μ-loop : tie.MeasureT-loop
+μ-loop m heights n₀ x₀ n x = m - x
+
+loop-holds : tie.Need-loop-holds Inv-loop μ-loop
+unfolding sum
+loop-holds c = (omega arith, refl, omega arith)
+
+add-n : tie.Need-add-n Inv-loop μ-loop
+add-n c = omega (arith, c .before .before .before .loop .inv .2, c .before .before .loop-test .taken)
+
+loop-again : tie.Need-loop-again Inv-loop μ-loop
+unfolding sum
+loop-again c =
+    let l = c .before .before .before .loop in
+    let f = heightIn (c .before .before .before .before .args .t2) in
+    let more : sum (l .x + 1) f ≡ sum (l .x) f + f (l .x) = ap (λ (k : ℕ). sum k f) (add-one (l .x)) in
+    (omega (arith, c .before .before .loop-test .taken), omega (arith, more, l .inv .1, c .height-of .ensures), omega (arith, l .inv .2))
+
+returns : tie.Need-returns Inv-loop μ-loop
+returns c =
+    let f = heightIn (c .before .before .args .t2) in
+    let all : c .before .loop .x ≡ c .before .before .args .m = omega (arith, c .before .loop .inv .0, c .loop-test .left) in
+    c .before .loop .inv .1 ∙ ap (λ (k : ℕ). sum k f) all
+
+pub cassettes-in-spec : {M : Type 1} → statement M
+cassettes-in-spec =
+    tie.close
+    (tie.spec Inv-loop μ-loop loop-holds (λ c κs. search needs) (λ c. search needs) add-n (λ c. search needs) (λ c. search needs) loop-again returns)
