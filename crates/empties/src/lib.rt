@@ -27,7 +27,7 @@ pub fn empty_slots(s: Store) -> u16
     ensures { λ r. ⌜ r ≡ emptyCount s ⌝ }
 {
     let heights = s.heights;
-    let slots = slots_of(s.m, s.h);
+    let all = slots_of(s.m, s.h);
     let n = cassettes_in(s.m, heights);
-    if n < slots { slots - n } else { 0 }
+    if n < all { all - n } else { 0 }
 }

@@ -37,7 +37,7 @@ use Rattle.making.specs.Made.{MadeIs}
 abbrev pub frameOf : Store → ℕ → Frame
 frameOf s e = record { m = s .m; h = s .h; e = e }
 
-module _ (s t : Store) (p : Comparable s t) (e : ℕ) (empty : e ≡ emptyCount s) where
+module _ (s t : Store) (p : Comparable s t) (e : ℕ) where
   start : Sound s
   start = accepted-sound s (p .start)
 
@@ -54,8 +54,8 @@ module _ (s t : Store) (p : Comparable s t) (e : ℕ) (empty : e ≡ emptyCount 
     shaped-fits (frameOf s e) (t .heights) (t .slots) (rw framed (goal .shaped)),
   )
 
-  all-slots : total (s .m) (stack s) + e ≡ sum (s .m) (depth s)
-  all-slots = rw empty (rw (empties-agree s) at (filled-and-empty (s .m) (depth s) (stack s) (start-within s t p)))
+  all-slots : e ≡ emptyCount s → total (s .m) (stack s) + e ≡ sum (s .m) (depth s)
+  all-slots empty = rw empty (rw (empties-agree s) at (filled-and-empty (s .m) (depth s) (stack s) (start-within s t p)))
 
   module _ (done : List ℕ) (a : AgreeingIs (frameOf s e) (s .heights) (s .slots) (t .heights) (t .slots) done) where
     -- the floors agree, so they are passed
@@ -64,9 +64,9 @@ module _ (s t : Store) (p : Comparable s t) (e : ℕ) (empty : e ≡ emptyCount 
         a .longest x (floor s x) u (start-floor s t p x u) (goal-floor s t p x u)
         (rule-floors s t p three r x u)
 
-    floor-held : 3 ≤ s .m → Rule s t → (x : ℕ) → x < s .m → depth s x ≤ e + heightIn done x
+    floor-held : e ≡ emptyCount s → 3 ≤ s .m → Rule s t → (x : ℕ) → x < s .m → depth s x ≤ e + heightIn done x
     unfolding floor
-    floor-held three r x u = omega (arith, floor-passed three r x u)
+    floor-held empty three r x u = omega (arith, floor-passed three r x u)
 
     rows-now : (x : ℕ) → Onto (passedRows (t .slots) done x) (stack s x)
     rows-now x = rw (a .same x) at (stack-onto s x (heightIn done x) (a .now x))
@@ -74,9 +74,9 @@ module _ (s t : Store) (p : Comparable s t) (e : ℕ) (empty : e ≡ emptyCount 
     rows-goal : (x : ℕ) → Onto (passedRows (t .slots) done x) (stack t x)
     rows-goal x = stack-onto t x (heightIn done x) (a .goal x)
 
-    way-first : 2 < s .m → Rule s t → OnTheWay (frameOf s e) (t .heights) (t .slots) done (s .heights) (s .slots)
-    way-first three r = record {
-      held = record { shaped = start .shaped; all = all-slots };
+    way-first : e ≡ emptyCount s → 2 < s .m → Rule s t → OnTheWay (frameOf s e) (t .heights) (t .slots) done (s .heights) (s .slots)
+    way-first empty three r = record {
+      held = record { shaped = start .shaped; all = all-slots empty };
       goal-shaped = rw framed (goal .shaped);
       three = three;
       some-row = start .some-row;
@@ -85,9 +85,9 @@ module _ (s t : Store) (p : Comparable s t) (e : ℕ) (empty : e ≡ emptyCount 
       halfway = rw framed (record {
         passed = record {
           onto = rows-now;
-          floor = λ x u. omega (arith, floor-held three r x u, passed-length (t .slots) done x);
+          floor = λ x u. omega (arith, floor-held empty three r x u, passed-length (t .slots) done x);
           within = start-within s t p;
-          all = all-slots;
+          all = all-slots empty;
         };
         goal = rows-goal;
         counts = same-occurrences s t p;
@@ -130,9 +130,9 @@ module _ (s t : Store) (p : Comparable s t) (e : ℕ) (empty : e ≡ emptyCount 
     unfolding listSpace deepest
     space-most = within-bound (cassetteCount s) (rowsLeft (frameOf s e) (t .heights) done) (greatest (s .m) (depth s)) left-few
 
-    pub play-ready : (came : List ℕ) → 2 < s .m → Rule s t → listSpace s ≤ length came
+    pub play-ready : e ≡ emptyCount s → (came : List ℕ) → 2 < s .m → Rule s t → listSpace s ≤ length came
         → OnTheWay (frameOf s e) (t .heights) (t .slots) done (s .heights) (s .slots) × (rowsLeft (frameOf s e) (t .heights) done * (4 * greatest (s .m) (depth s) + 8) ≤ length came)
-    play-ready came three r h = (way-first three r, omega (arith, space-most))
+    play-ready empty came three r h = (way-first empty three r, omega (arith, space-most))
 
     pub made : {came done′ heights′ slots′ out : List ℕ} {count : ℕ}
         → ArrivedIs (frameOf s e) (t .heights) (t .slots) done (s .heights) (s .slots) came done′ heights′ slots′ count out

@@ -9,13 +9,12 @@ use Rattle.stacks.specs.Run.{Within}
 use Rattle.stacks.specs.Count.{count, occurrences, total, empties, lowest}
 use Rattle.stacks.specs.TwoStackReading.{twoStackReading}
 use Rattle.stacks.proofs.Counts.{count-append}
-use Rattle.stacks.proofs.Sums.{sum-equal}
 use Rattle.store.specs.declared.Store.{Store}
-use Rattle.store.specs.Slots.{depth, height, slot, upward, downward, stack, cassettesBelow, cassettes, cassetteCount, emptyCount}
+use Rattle.store.specs.Slots.{depth, height, slot, upward, downward, stack, cassettes, cassetteCount, emptyCount}
 use Rattle.rows.specs.Rows.{rowsUp, rowsDown}
 use Rattle.rows.proofs.Upward.{rows-count}
 use Rattle.store.specs.Sound.{Shaped}
-use Rattle.store.proofs.Rows.{stack-length, heights-counted}
+use Rattle.store.proofs.Rows.{stack-length, cassettes-added, heights-counted}
 use Rattle.reach.specs.Rules.{twoShaftReading, floor}
 
 module _ (s : Store) where
@@ -38,19 +37,14 @@ module _ (s : Store) where
   reading-agrees = upward-then 0 (height s 0) (downward s 1 (height s 1))
 
   -- each number stands as often among the cassettes as in the stacks
-  below-count : (c x : ℕ) → occurrences x c (stack s) ≡ count c (cassettesBelow s x)
-  unfolding occurrences cassettesBelow stack
-  below-count c zero = refl
-  below-count c (suc x) = simp count-append (omega (arith, below-count c x, rows-count (s .slots) x c (height s x)))
-
   pub occurrences-agree : (c : ℕ) → occurrences (s .m) c (stack s) ≡ count c (cassettes s)
-  unfolding cassettes
-  occurrences-agree c = below-count c (s .m)
+  unfolding occurrences stack count
+  occurrences-agree c = simp rows-count at (cassettes-added s (count c) refl (count-append c))
 
   -- n and e are the numbers of cassettes and of empty slots of the stacks
   pub total-agrees : total (s .m) (stack s) ≡ cassetteCount s
   unfolding total
-  total-agrees = sum-equal (s .m) (λ i. length (stack s i)) (height s) (λ i h. stack-length s i) ∙ heights-counted s
+  total-agrees = simp stack-length (heights-counted s)
 
   pub empties-agree : empties (s .m) (depth s) (stack s) ≡ emptyCount s
   unfolding empties emptyCount

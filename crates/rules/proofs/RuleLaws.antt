@@ -4,31 +4,31 @@ use mathlib.Core.Logic.{_↔_}
 use mathlib.Core.Path.{_≡_, refl, sym, ap, _∙_}
 use Prim.Native.Nat.{ℕ, zero, suc, _+_, _-_, _≤_, _<_}
 use native.Mathlib.Omega.{arith}
-use Rattle.stacks.specs.Count.{total}
+use Rattle.stacks.specs.Count.{sum}
 use Rattle.stacks.specs.TwoStackReading.{twoStackReading}
 use Rattle.stacks.proofs.Counts.{same-length}
 use Rattle.store.specs.declared.Store.{Store}
 use Rattle.store.specs.Slots.{depth, height, upward, stack, cassettes, cassetteCount, emptyCount}
 use Rattle.store.specs.Sound.{Shaped, Sound}
 use Rattle.store.proofs.Acceptance.{accepted-sound}
-use Rattle.store.proofs.Rows.{stack-length}
+use Rattle.store.proofs.Rows.{heights-counted}
 use Rattle.store.proofs.Views.{same-stacks}
 use Rattle.reach.specs.Pairs.{Comparable}
 use Rattle.reach.specs.Rules.{twoShaftReading, floor, RuleFor, Rule}
-use Rattle.reach.proofs.Agree.{reading-agrees, total-agrees, none-beyond}
+use Rattle.reach.proofs.Agree.{reading-agrees, none-beyond}
 
 module _ (s : Store) (p : Shaped s) where
   -- one or two shafts hold what shafts 0 and 1 hold
   two-hold : 0 < s .m → s .m ≤ 2 → cassetteCount s ≡ height s 0 + height s 1
-  unfolding total
+  unfolding sum
   two-hold = go (s .m) refl
     where
       go : (m : ℕ) → s .m ≡ m → 0 < m → m ≤ 2 → cassetteCount s ≡ height s 0 + height s 1
       go zero e h i = absurd (omega arith)
       go (suc zero) e h i =
-          omega (arith, total-agrees s, ap (λ m. total m (stack s)) e, stack-length s 0, p .none-beyond 1 (omega arith))
+          omega (arith, heights-counted s, ap (λ m. sum m (height s)) e, p .none-beyond 1 (omega arith))
       go (suc (suc zero)) e h i =
-          omega (arith, total-agrees s, ap (λ m. total m (stack s)) e, stack-length s 0, stack-length s 1)
+          omega (arith, heights-counted s, ap (λ m. sum m (height s)) e)
       go (suc (suc (suc m))) e h i = absurd (omega arith)
 
   -- with one shaft, the reading is that shaft's

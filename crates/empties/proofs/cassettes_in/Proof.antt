@@ -19,24 +19,20 @@ loop-holds : tie.Need-loop-holds Inv-loop μ-loop
 unfolding sum
 loop-holds c = (omega arith, refl, omega arith)
 
-add-n : tie.Need-add-n Inv-loop μ-loop
-add-n c = omega (arith, c .before .before .before .loop .inv .2, c .before .before .loop-test .taken)
-
 loop-again : tie.Need-loop-again Inv-loop μ-loop
 unfolding sum
 loop-again c =
-    let l = c .before .before .before .loop in
+    let x = c .before .before .before .loop .x in
     let f = heightIn (c .before .before .before .before .args .t2) in
-    let more : sum (l .x + 1) f ≡ sum (l .x) f + f (l .x) = ap (λ (k : ℕ). sum k f) (add-one (l .x)) in
-    (omega (arith, c .before .before .loop-test .taken), omega (arith, more, l .inv .1, c .height-of .ensures), omega (arith, l .inv .2))
+    let more : sum (x + 1) f ≡ sum x f + f x = ap (λ (k : ℕ). sum k f) (add-one x) in
+    (omega arith, omega (arith, more), omega arith)
 
 returns : tie.Need-returns Inv-loop μ-loop
 returns c =
-    let f = heightIn (c .before .before .args .t2) in
-    let all : c .before .loop .x ≡ c .before .before .args .m = omega (arith, c .before .loop .inv .0, c .loop-test .left) in
-    c .before .loop .inv .1 ∙ ap (λ (k : ℕ). sum k f) all
+    let all : c .before .loop .x ≡ c .before .before .args .m = omega arith in
+    c .before .loop .inv .1 ∙ ap (λ (k : ℕ). sum k (heightIn (c .before .before .args .t2))) all
 
 pub cassettes-in-spec : {M : Type 1} → statement M
 cassettes-in-spec =
     tie.close
-    (tie.spec Inv-loop μ-loop loop-holds (λ c κs. search needs) (λ c. search needs) add-n (λ c. search needs) (λ c. search needs) loop-again returns)
+    (tie.spec Inv-loop μ-loop loop-holds (λ c κs. search needs) (λ c. search needs) (λ c. search needs) (λ c. search needs) (λ c. search needs) loop-again returns)

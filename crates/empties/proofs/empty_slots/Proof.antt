@@ -8,16 +8,16 @@ use Rattle.store.proofs.Rows.{heights-counted}
 use Rattle.empties.proofs.empty_slots.Statement.{statement}
 use Rattle.empties.proofs.empty_slots.Tie as tie
 
--- what the two counts leave is e
-left : (c : tie.After-cassettes-in) → c .before .slots-of .result - c .cassettes-in .result ≡ emptyCount (c .before .before .before .args .s)
+-- the slots less the cassettes
+difference : (c : tie.After-cassettes-in) → c .before .slots-of .result - c .cassettes-in .result ≡ emptyCount (c .before .before .before .args .s)
 unfolding emptyCount
-left c = omega (arith, c .before .slots-of .ensures, c .cassettes-in .ensures, heights-counted (c .before .before .before .args .s))
+difference c = omega (arith, heights-counted (c .before .before .before .args .s))
 
 returns : tie.Need-returns
-returns c = left (c .before)
+returns c = difference (c .before)
 
 returns-2 : tie.Need-returns-2
-returns-2 c = omega (arith, left (c .before), c .if1 .left)
+returns-2 c = omega (arith, difference (c .before))
 
 pub empty-slots-spec : {M : Type 1} → statement M
 empty-slots-spec = tie.close (tie.spec (λ c κs. search needs) (λ c κs. search needs) (λ c. search needs) returns returns-2)
