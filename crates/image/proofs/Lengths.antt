@@ -3,16 +3,18 @@ use mathlib.Core.List.{List}
 use mathlib.Core.Path.{_≡_, refl, _∙_}
 use Prim.Native.Nat.{ℕ, zero, suc, _+_, _*_, _/_, _≤_, _<_}
 use native.Mathlib.Decide.{decLt}
-use native.Mathlib.Nat.{mul-suc, not-suc-le-zero}
+use native.Mathlib.Nat.{not-suc-le-zero}
 use native.Mathlib.Omega.{arith}
 use lib.ListN.{length, length-append}
 use Rattle.bits.proofs.Widths.{length-bits, length-packed}
+use Rattle.stacks.specs.Count.{sum}
 use Rattle.lifts.specs.Lifting.{heightIn}
 use Rattle.store.specs.declared.Store.{Store}
 use Rattle.rows.proofs.Upward.{rows-length}
-use Rattle.store.specs.Slots.{cassettesBelow, cassettes, cassetteCount}
+use Rattle.store.specs.Slots.{height, cassetteCount}
 use Rattle.store.specs.Accept.{Accepted}
 use Rattle.store.proofs.Acceptance.{accepted-shaped, accepted-few}
+use Rattle.store.proofs.Counted.{heights-counted}
 use Rattle.image.specs.Image.{heightWidth, cassetteWidth, headBits, columnBits, columnsBits, shaftsBits, imageBits, imageLength}
 
 pub length-head : (s : Store) → length (headBits s) ≡ 12
@@ -37,15 +39,14 @@ module _ (heights slots : List ℕ) where
         | no k ↦ (let e : x ≡ m = omega arith in rw e (omega (arith, length-more m, length-shaft m)))
       ]
 
-length-shafts : (s : Store) (x : ℕ) → length (shaftsBits s x) ≡ heightWidth * x + cassetteWidth * length (cassettesBelow s x)
-unfolding columnsBits cassettesBelow
+length-shafts : (s : Store) (x : ℕ) → length (shaftsBits s x) ≡ heightWidth * x + cassetteWidth * sum x (height s)
+unfolding columnsBits sum
 length-shafts s zero = refl
-length-shafts s (suc x) =
-    length-more (s .heights) (s .slots) x ∙ simp (length-append, rows-length) (omega (arith, length-shafts s x, mul-suc heightWidth x))
+length-shafts s (suc x) = omega (arith, length-more (s .heights) (s .slots) x, length-shafts s x)
 
 pub length-image : (s : Store) → length (imageBits s) ≡ 12 + (5 * s .m + 8 * cassetteCount s)
-unfolding imageBits cassetteCount cassettes
-length-image s = length-append (headBits s) (shaftsBits s (s .m)) ∙ omega (arith, length-head s, length-shafts s (s .m))
+unfolding imageBits
+length-image s = length-append (headBits s) (shaftsBits s (s .m)) ∙ omega (arith, length-head s, length-shafts s (s .m), heights-counted s)
 
 -- "The longest image has 267 bytes."
 pub longest : (s : Store) → Accepted s → imageLength s ≤ 267

@@ -58,42 +58,11 @@ module _ (s t : Store) (p : Comparable s t) (e : ℕ) where
   all-slots empty = rw empty (rw (empties-agree s) at (filled-and-empty (s .m) (depth s) (stack s) (start-within s t p)))
 
   module _ (done : List ℕ) (a : AgreeingIs (frameOf s e) (s .heights) (s .slots) (t .heights) (t .slots) done) where
-    -- the floors agree, so they are passed
-    floor-passed : 3 ≤ s .m → Rule s t → (x : ℕ) → x < s .m → floor s x ≤ heightIn done x
-    floor-passed three r x u =
-        a .longest x (floor s x) u (start-floor s t p x u) (goal-floor s t p x u)
-        (rule-floors s t p three r x u)
-
-    floor-held : e ≡ emptyCount s → 3 ≤ s .m → Rule s t → (x : ℕ) → x < s .m → depth s x ≤ e + heightIn done x
-    unfolding floor
-    floor-held empty three r x u = omega (arith, floor-passed three r x u)
-
     rows-now : (x : ℕ) → Onto (passedRows (t .slots) done x) (stack s x)
     rows-now x = rw (a .same x) at (stack-onto s x (heightIn done x) (a .now x))
 
     rows-goal : (x : ℕ) → Onto (passedRows (t .slots) done x) (stack t x)
     rows-goal x = stack-onto t x (heightIn done x) (a .goal x)
-
-    way-first : e ≡ emptyCount s → 2 < s .m → Rule s t → OnTheWay (frameOf s e) (t .heights) (t .slots) done (s .heights) (s .slots)
-    way-first empty three r = record {
-      held = record { shaped = start .shaped; all = all-slots empty };
-      goal-shaped = rw framed (goal .shaped);
-      three = three;
-      some-row = start .some-row;
-      sized = a .sized;
-      within = a .goal;
-      halfway = rw framed (record {
-        passed = record {
-          onto = rows-now;
-          floor = λ x u. omega (arith, floor-held empty three r x u, passed-length (t .slots) done x);
-          within = start-within s t p;
-          all = all-slots empty;
-        };
-        goal = rows-goal;
-        counts = same-occurrences s t p;
-        beyond = beyond s t p;
-      });
-    }
 
     -- no more rows are left than there are cassettes, and none where start and goal are the same
     left-few : rowsLeft (frameOf s e) (t .heights) done ≤ cassetteCount s
@@ -130,9 +99,41 @@ module _ (s t : Store) (p : Comparable s t) (e : ℕ) where
     unfolding listSpace deepest
     space-most = within-bound (cassetteCount s) (rowsLeft (frameOf s e) (t .heights) done) (greatest (s .m) (depth s)) left-few
 
-    pub play-ready : e ≡ emptyCount s → (came : List ℕ) → 2 < s .m → Rule s t → listSpace s ≤ length came
-        → OnTheWay (frameOf s e) (t .heights) (t .slots) done (s .heights) (s .slots) × (rowsLeft (frameOf s e) (t .heights) done * (4 * greatest (s .m) (depth s) + 8) ≤ length came)
-    play-ready empty came three r h = (way-first empty three r, omega (arith, space-most))
+    -- from the rows that agree rounds can be played
+    module _ (empty : e ≡ emptyCount s) (three : 2 < s .m) (r : Rule s t) where
+      -- the floors agree, so they are passed
+      floor-passed : (x : ℕ) → x < s .m → depth s x ≤ e + heightIn done x
+      unfolding floor
+      floor-passed x u =
+          omega (
+            arith,
+            a .longest x (floor s x) u (start-floor s t p x u) (goal-floor s t p x u) (rule-floors s t p three r x u),
+          )
+
+      way-first : OnTheWay (frameOf s e) (t .heights) (t .slots) done (s .heights) (s .slots)
+      way-first = record {
+        held = record { shaped = start .shaped; all = all-slots empty };
+        goal-shaped = rw framed (goal .shaped);
+        three = three;
+        some-row = start .some-row;
+        sized = a .sized;
+        within = a .goal;
+        halfway = rw framed (record {
+          passed = record {
+            onto = rows-now;
+            floor = λ x u. omega (arith, floor-passed x u, passed-length (t .slots) done x);
+            within = start-within s t p;
+            all = all-slots empty;
+          };
+          goal = rows-goal;
+          counts = same-occurrences s t p;
+          beyond = beyond s t p;
+        });
+      }
+
+      pub play-ready : (came : List ℕ) → listSpace s ≤ length came
+          → OnTheWay (frameOf s e) (t .heights) (t .slots) done (s .heights) (s .slots) × (rowsLeft (frameOf s e) (t .heights) done * (4 * greatest (s .m) (depth s) + 8) ≤ length came)
+      play-ready came h = (way-first, omega (arith, space-most))
 
     pub made : {came done′ heights′ slots′ out : List ℕ} {count : ℕ}
         → ArrivedIs (frameOf s e) (t .heights) (t .slots) done (s .heights) (s .slots) came done′ heights′ slots′ count out

@@ -14,7 +14,8 @@ use Rattle.store.specs.Slots.{depth, height, slot, upward, downward, stack, cas
 use Rattle.rows.specs.Rows.{rowsUp, rowsDown}
 use Rattle.rows.proofs.Upward.{rows-count}
 use Rattle.store.specs.Sound.{Shaped}
-use Rattle.store.proofs.Rows.{stack-length, cassettes-added, heights-counted}
+use Rattle.store.proofs.Counted.{cassettes-added, heights-counted}
+use Rattle.store.proofs.Rows.{stack-length}
 use Rattle.reach.specs.Rules.{twoShaftReading, floor}
 
 module _ (s : Store) where

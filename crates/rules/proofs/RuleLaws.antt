@@ -11,7 +11,7 @@ use Rattle.store.specs.declared.Store.{Store}
 use Rattle.store.specs.Slots.{depth, height, upward, stack, cassettes, cassetteCount, emptyCount}
 use Rattle.store.specs.Sound.{Shaped, Sound}
 use Rattle.store.proofs.Acceptance.{accepted-sound}
-use Rattle.store.proofs.Rows.{heights-counted}
+use Rattle.store.proofs.Counted.{heights-counted}
 use Rattle.store.proofs.Views.{same-stacks}
 use Rattle.reach.specs.Pairs.{Comparable}
 use Rattle.reach.specs.Rules.{twoShaftReading, floor, RuleFor, Rule}

@@ -13,7 +13,7 @@ use Rattle.store.specs.Accept.{inPlace, shaftsFault, storeFault, Accepte
 use Rattle.rows.specs.Rows.{rowsFault}
 use Rattle.store.specs.Sound.{Shaped, Sound}
 use Rattle.store.proofs.InPlace.{shafts-in-range, rows-in-range, in-place-shaped, shaped-in-place}
-use Rattle.store.proofs.Once.{walked-once, once-walks, none-below, cassettes-below}
+use Rattle.store.proofs.Once.{walked-once, once-walks, none-stands, cassettes-below}
 use Rattle.store.proofs.Verdicts.{by-shafts}
 use Rattle.store.proofs.Views.{holds-below}
 use Rattle.store.proofs.Walk.{shaft-none, not-too-high}
@@ -52,7 +52,7 @@ module _ (s : Store) where
     -- the marks of its cassettes are as many as its cassettes
     pub accepted-marked : Marked (withMarks noMarks (cassettes s)) (cassettes s)
     unfolding cassettes
-    accepted-marked = record { marks = refl; below = cassettes-below s (accepted-shaped .numbered) (s .m); once = accepted-sound .once }
+    accepted-marked = record { marks = refl; below = cassettes-below s (accepted-shaped .numbered); once = accepted-sound .once }
 
     pub accepted-count : markCount (withMarks noMarks (cassettes s)) ≡ cassetteCount s
     unfolding cassetteCount
@@ -61,7 +61,7 @@ module _ (s : Store) where
     -- and its cassettes are fewer than the numbers that a slot may show: at most 255
     pub accepted-few : cassetteCount s < numbers
     unfolding cassetteCount
-    accepted-few = marked-few _ (cassettes s) accepted-marked (none-below s 0 (accepted-sound .no-gap) (s .m))
+    accepted-few = marked-few _ (cassettes s) accepted-marked (none-stands s 0 (accepted-sound .no-gap))
 
   pub sound-accepted : Sound s → Accepted s
   unfolding cassettes

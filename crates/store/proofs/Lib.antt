@@ -1,5 +1,6 @@
 pub mod Acceptance
 pub mod Checks
+pub mod Counted
 pub mod InPlace
 pub mod LiftExact
 pub mod Lifting

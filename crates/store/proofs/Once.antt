@@ -11,16 +11,18 @@ use lib.ListN.{getD}
 use Rattle.stacks.specs.Count.{count, one}
 use Rattle.stacks.proofs.Counts.{count-append, count-last}
 use Rattle.stacks.proofs.Distinct.{Below}
+use Rattle.stacks.proofs.Sums.{sum-equal, sum-same}
 use Rattle.marks.specs.Cassettes.{numbers, mayRepeat, cassetteFault}
 use Rattle.marks.proofs.Faulted.{first-none}
 use Rattle.marks.proofs.Takes.{taken-cassette, cassette-taken, Once, once-more}
 use Rattle.lifts.specs.Lifting.{shown}
 use Rattle.store.specs.declared.Store.{Store}
-use Rattle.store.specs.Slots.{depth, height, slot, upward, cassettesBelow}
+use Rattle.store.specs.Slots.{depth, height, slot, upward, cassettesBelow, cassettes}
 use Rattle.rows.specs.Rows.{rowsUp, rowsFault}
 use Rattle.store.specs.Accept.{shaftFault, shaftsFault}
 use Rattle.rows.proofs.Upward.{none-shown}
 use Rattle.rows.proofs.Walk.{row-after, row-passed}
+use Rattle.store.proofs.Counted.{cassettes-added}
 use Rattle.store.proofs.Walk.{shaft-passed, by-rows, not-too-high}
 
 once-last : (l : List ℕ) (x : ℕ) → Once (l ++ (x ∷ [])) → mayRepeat x ≡ false → count x l ≡ 0
@@ -66,17 +68,21 @@ module _ (s : Store) where
       (by-rows s x (h x) ∙ rows-pass (cassettesBelow s x) x (height s x) (n x) p)
 
 -- a number that no row up to a height shows stands nowhere
-pub none-below : (s : Store) (c : ℕ) → ((x k : ℕ) → k < height s x → slot s x (suc k) ≡ c → ⊥) → (x : ℕ) → count c (cassettesBelow s x) ≡ 0
-unfolding cassettesBelow count
-none-below s c f zero = refl
-none-below s c f (suc x) =
-    omega (arith, none-below s c f x, none-shown (s .slots) x c (height s x) (f x), count-append c (cassettesBelow s x) (upward s x (height s x)))
+pub none-stands : (s : Store) (c : ℕ) → ((x k : ℕ) → k < height s x → slot s x (suc k) ≡ c → ⊥) → count c (cassettes s) ≡ 0
+unfolding count
+none-stands s c f =
+    omega (
+      arith,
+      cassettes-added s (count c) refl (count-append c),
+      sum-equal (s .m) _ (λ x. 0) (λ x _. none-shown (s .slots) x c (height s x) (f x)),
+      sum-same (s .m) 0,
+    )
 
 -- the cassettes of a store are what its slots may show
-pub cassettes-below : (s : Store) → ((i : ℕ) → getD (s .slots) i 0 < numbers) → (x : ℕ) → Below numbers (cassettesBelow s x)
+pub cassettes-below : (s : Store) → ((i : ℕ) → getD (s .slots) i 0 < numbers) → Below numbers (cassettes s)
 unfolding shown
-cassettes-below s b x c h =
+cassettes-below s b c h =
     elim (decLt c numbers) [
       | yes i ↦ i
-      | no i ↦ absurd (omega (arith, none-below s c (λ y k l e. omega (arith, b (16 * y + k))) x))
+      | no i ↦ absurd (omega (arith, none-stands s c (λ y k l e. omega (arith, b (16 * y + k)))))
     ]

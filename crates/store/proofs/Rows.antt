@@ -1,17 +1,15 @@
--- The rows of a shaft: that they show what a slot may show, that the rows up to the height make the stack, and that the heights of the shafts add up to n.
-use mathlib.Core.List.{List, [], _∷_, _++_}
-use mathlib.Core.Path.{_≡_, refl, sym, ap, subst}
+-- The rows of a shaft: that they show what a slot may show, and that the rows up to the height make the stack.
+use mathlib.Core.List.{List, _∷_}
+use mathlib.Core.Path.{_≡_, refl, ap, subst}
 use Prim.Native.Nat.{ℕ, zero, suc, _+_, _*_, _<_}
 use native.Mathlib.Decide.{decLt}
 use native.Mathlib.Omega.{arith}
-use lib.ListN.{length, length-append, getD}
-use Rattle.stacks.specs.Count.{sum}
+use lib.ListN.{length, getD}
 use Rattle.marks.specs.Cassettes.{numbers}
 use Rattle.lifts.specs.Lifting.{shown, placedAt}
 use Rattle.store.specs.declared.Store.{Store}
-use Rattle.store.specs.Slots.{height, slot, upward, downward, stack, cassettesBelow, cassettes, cassetteCount}
+use Rattle.store.specs.Slots.{height, slot, downward, stack}
 use Rattle.rows.specs.Rows.{rowsDown}
-use Rattle.rows.proofs.Upward.{rows-length}
 use Rattle.store.proofs.Typed.{below-set}
 
 -- slots of which one row is written
@@ -55,17 +53,3 @@ rows-same s t x (suc n) k e h =
       | yes i ↦ rows-same s t x n k (cc) i
       | no i ↦ (let u : k ≡ n = omega arith in rw u (cc))
     ]
-
--- what adds up over lists adds up over the cassettes, shaft by shaft
-pub cassettes-added : (s : Store) (f : List ℕ → ℕ) → f [] ≡ 0 → ((k l : List ℕ) → f (k ++ l) ≡ f k + f l) → sum (s .m) (λ i. f (upward s i (height s i))) ≡ f (cassettes s)
-unfolding sum cassettesBelow cassettes
-cassettes-added s f e a = go (s .m)
-  where
-    go : (x : ℕ) → sum x (λ i. f (upward s i (height s i))) ≡ f (cassettesBelow s x)
-    go zero = sym e
-    go (suc x) = omega (arith, go x, a (cassettesBelow s x) (upward s x (height s x)))
-
--- the heights of the shafts add up to the count of cassettes
-pub heights-counted : (s : Store) → sum (s .m) (height s) ≡ cassetteCount s
-unfolding cassetteCount
-heights-counted s = simp rows-length at (cassettes-added s length refl length-append)

@@ -1,7 +1,7 @@
 -- `cassettes_in` meets its contract. The invariant: n is the sum of the heights passed, of which none is more than 255.
 use borrow.Author.Needs.{needs}
-use mathlib.Core.Path.{_≡_, refl, ap, _∙_}
-use Prim.Native.Nat.{ℕ, _+_, _-_, _*_, _≤_}
+use mathlib.Core.Path.{_≡_, refl}
+use Prim.Native.Nat.{_-_, _*_, _≤_}
 use native.Mathlib.Numerals.{add-one}
 use native.Mathlib.Omega.{arith}
 use Rattle.stacks.specs.Count.{sum}
@@ -21,16 +21,10 @@ loop-holds c = (omega arith, refl, omega arith)
 
 loop-again : tie.Need-loop-again Inv-loop μ-loop
 unfolding sum
-loop-again c =
-    let x = c .before .before .before .loop .x in
-    let f = heightIn (c .before .before .before .before .args .t2) in
-    let more : sum (x + 1) f ≡ sum x f + f x = ap (λ (k : ℕ). sum k f) (add-one x) in
-    (omega arith, omega (arith, more), omega arith)
+loop-again c = (omega arith, rw add-one (omega arith), omega arith)
 
 returns : tie.Need-returns Inv-loop μ-loop
-returns c =
-    let all : c .before .loop .x ≡ c .before .before .args .m = omega arith in
-    c .before .loop .inv .1 ∙ ap (λ (k : ℕ). sum k (heightIn (c .before .before .args .t2))) all
+returns c = let all : c .before .loop .x ≡ c .before .before .args .m = omega arith in rw all at (c .before .loop .inv .1)
 
 pub cassettes-in-spec : {M : Type 1} → statement M
 cassettes-in-spec =

@@ -12,7 +12,7 @@ hints-of-requires : tie.Need-hints-of-requires
 hints-of-requires c κs = let t = c .before .before .before .before .before .before .before .before .before .before in accepted-shaped _ (t .pre .0 .start) .shafts
 
 play-all-requires : tie.Need-play-all-requires
-play-all-requires c κs = let t = c .before .before .before .before .before .before .before .before .before .before .before .before .before .before .before .before .before in play-ready (t .args .start) (t .args .goal) (t .pre .0) _ _ (c .before .before .before .before .before .before .before .before .agreeing .ensures) (c .before .before .before .before .before .before .before .before .before .before .before .before .before .before .before .empty-slots .ensures) (t .args .out .now) (t .pre .1 .0 .0) (t .pre .1 .0 .1) (t .pre .1 .1)
+play-all-requires c κs = let t = c .before .before .before .before .before .before .before .before .before .before .before .before .before .before .before .before .before in play-ready (t .args .start) (t .args .goal) (t .pre .0) _ _ (c .before .before .before .before .before .before .before .before .agreeing .ensures) (c .before .before .before .before .before .before .before .before .before .before .before .before .before .before .before .empty-slots .ensures) (t .pre .1 .0 .0) (t .pre .1 .0 .1) (t .args .out .now) (t .pre .1 .1)
 
 returns : tie.Need-returns
 returns c = let t = c .before .before .before .before .before .before .before .before .before .before .before .before .before .before .before .before .before .before .before .before in made (t .args .start) (t .args .goal) (t .pre .0) _ _ (c .before .before .before .before .before .before .before .before .before .before .before .agreeing .ensures) (c .before .before .play-all .ensures)
