@@ -1,15 +1,13 @@
 -- With three shafts or more: rounds can be played from the rows that agree, and they make a list within the list space, an empty one where start and goal
 -- are the same.
 use mathlib.Core.List.{List}
-use mathlib.Core.Path.{_≡_, sym, ap, _∙_, subst}
+use mathlib.Core.Path.{_≡_, sym, ap, subst}
 use Prim.Native.Nat.{ℕ, _+_, _*_, _-_, _≤_, _<_}
-use native.Mathlib.Decide.{decLt}
 use native.Mathlib.Omega.{arith}
 use lib.ListN.{length}
 use Rattle.stacks.specs.Count.{sum, greatest, total}
 use Rattle.stacks.specs.Placing.{Onto}
-use Rattle.stacks.proofs.Sums.{sum-le, Less, some-positive}
-use Rattle.stacks.proofs.Counts.{same-total}
+use Rattle.stacks.proofs.Sums.{sum-le, sum-none}
 use Rattle.stacks.proofs.Rounds.{within-bound}
 use Rattle.stacks.proofs.Floors.{filled-and-empty}
 use Rattle.store.specs.declared.Store.{Store}
@@ -17,10 +15,10 @@ use Rattle.store.specs.Slots.{depth, deepest, height, stack, cassetteCount, emp
 use Rattle.rows.specs.Rows.{rowsDown}
 use Rattle.store.specs.Sound.{Sound}
 use Rattle.store.proofs.Acceptance.{accepted-sound}
-use Rattle.store.proofs.Rows.{stack-length}
+use Rattle.store.proofs.Counted.{heights-counted, same-count}
 use Rattle.reach.specs.Pairs.{Comparable}
 use Rattle.reach.specs.Rules.{floor, Rule}
-use Rattle.reach.proofs.Agree.{total-agrees, empties-agree}
+use Rattle.reach.proofs.Agree.{empties-agree}
 use Rattle.reach.proofs.Reachability.{start-within, beyond, same-occurrences, start-floor, goal-floor, rule-floors}
 use Rattle.moves.specs.Written.{Steps}
 use Rattle.rooms.specs.declared.Frame.{Frame}
@@ -66,34 +64,22 @@ module _ (s t : Store) (p : Comparable s t) (e : ℕ) where
 
     -- no more rows are left than there are cassettes, and none where start and goal are the same
     left-few : rowsLeft (frameOf s e) (t .heights) done ≤ cassetteCount s
-    unfolding rowsLeft total
+    unfolding rowsLeft
     left-few =
         omega (
           arith,
-          sum-le (s .m) (λ x. heightIn (t .heights) x - heightIn done x) (λ x. length (stack t x)) (λ x _. omega (arith, stack-length t x)),
-          same-cassettes,
+          sum-le (s .m) (λ x. height t x - heightIn done x) (height t) (λ x _. omega arith),
+          ap (λ m. sum m (height t)) (p .frame .shafts),
+          heights-counted t,
+          same-count s t (p .cassettes),
         )
-      where
-        same-cassettes : sum (s .m) (λ x. length (stack t x)) ≡ cassetteCount s
-        same-cassettes = sym (same-total (s .m) (stack s) (stack t) (same-occurrences s t p)) ∙ total-agrees s
 
     left-none : s ≡ t → rowsLeft (frameOf s e) (t .heights) done ≡ 0
     unfolding rowsLeft
     left-none eq =
-        elim (decLt 0 (sum (s .m) (λ x. heightIn (t .heights) x - heightIn done x))) [
-          | yes h ↦ absurd (go (some-positive (s .m) (λ x. heightIn (t .heights) x - heightIn done x) h))
-          | no h ↦ omega arith
-        ]
-      where
-        go : Less (s .m) (s .m) (λ x. 0) (λ x. heightIn (t .heights) x - heightIn done x) → ⊥
-        go b =
-            let x : ℕ = b .place in
-            let same : height t x ≡ height s x = ap (λ (u : Store). height u x) (sym eq) in
-            omega (
-              arith,
-              b .less,
-              a .longest x (height s x) (b .below) (omega arith) (omega arith) (ap (λ (u : Store). rowsDown (u .slots) x (height s x)) eq),
-            )
+        sum-none (s .m) (λ x. height t x - heightIn done x) λ x u.
+        let same : height t x ≡ height s x = ap (λ (v : Store). height v x) (sym eq) in
+        omega (arith, a .longest x (height s x) u (omega arith) (omega arith) (ap (λ (v : Store). rowsDown (v .slots) x (height s x)) eq))
 
     space-most : rowsLeft (frameOf s e) (t .heights) done * (4 * greatest (s .m) (depth s) + 8) ≤ listSpace s
     unfolding listSpace deepest

@@ -40,7 +40,7 @@ module _ (s : Store) where
   -- each number stands as often among the cassettes as in the stacks
   pub occurrences-agree : (c : ℕ) → occurrences (s .m) c (stack s) ≡ count c (cassettes s)
   unfolding occurrences stack count
-  occurrences-agree c = simp rows-count at (cassettes-added s (count c) refl (count-append c))
+  occurrences-agree c = sym (simp rows-count at (cassettes-added s (count c) refl (count-append c)))
 
   -- n and e are the numbers of cassettes and of empty slots of the stacks
   pub total-agrees : total (s .m) (stack s) ≡ cassetteCount s

@@ -8,7 +8,7 @@ use native.Mathlib.Decide.{ℕ-discrete}
 use native.Mathlib.Omega.{arith}
 use Rattle.stacks.specs.Count.{one, count, occurrences, empties, lowest}
 use Rattle.stacks.proofs.Floors.{floors-kept}
-use Rattle.stacks.proofs.Kept.{occurrences-kept, total-kept}
+use Rattle.stacks.proofs.Kept.{occurrences-kept}
 use Rattle.stacks.proofs.Sums.{term-le-sum, some-positive}
 use Rattle.store.specs.declared.Store.{Store}
 use Rattle.depths.specs.Depths.{depthBy}
@@ -19,9 +19,10 @@ use Rattle.store.specs.Accept.{Accepted}
 use Rattle.store.specs.Lists.{Leads}
 use Rattle.store.specs.Sound.{Shaped}
 use Rattle.store.proofs.Acceptance.{accepted-sound, sound-accepted}
+use Rattle.store.proofs.Counted.{same-count}
 use Rattle.store.proofs.Views.{holds-below}
 use Rattle.store.proofs.Played.{leads-run, leads-shaped, leads-frame}
-use Rattle.reach.proofs.Agree.{shaped-within, occurrences-agree, total-agrees}
+use Rattle.reach.proofs.Agree.{shaped-within, occurrences-agree}
 
 -- the lowest cassettes of each shaft, as many as the empty slots leave of its depth, are the same
 abbrev pub SameLowest : Store → Store → Type 0
@@ -69,7 +70,7 @@ module _ {s t : Store} {bs : List ℕ} (p : Shaped s) (l : Leads s bs t) where
   leads-counts c = cc (occurrences-agree t c, leads-frame l .shafts, leads-occurrences p l c, occurrences-agree s c)
 
   pub leads-count : cassetteCount t ≡ cassetteCount s
-  leads-count = cc (total-agrees t, leads-frame l .shafts, total-kept (leads-run p l), total-agrees s)
+  leads-count = same-count t s leads-counts
 
 -- stores of one frame have the same depths
 pub frame-depths : {s t : Store} → SameFrame s t → depth s ≡ depth t

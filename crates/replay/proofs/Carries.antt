@@ -9,7 +9,7 @@ use lib.Dec.{eqb}
 use lib.ListN.{length, getD, set, length-set}
 use lib.Seq.{getD-set-same, getD-set-other}
 use Rattle.stacks.specs.Count.{one}
-use Rattle.stacks.proofs.Sums.{sum-equal, sum-same, term-le-sum, sum-differ-two}
+use Rattle.stacks.proofs.Sums.{sum-none, term-le-sum, sum-differ-two}
 use Rattle.marks.specs.Cassettes.{given}
 use Rattle.lifts.specs.Lifting.{mostRows, slotCount}
 use Rattle.lifts.proofs.Moving.{shown-place, slots-after}
@@ -32,7 +32,7 @@ given-suc false k = refl
 pub none-carried : (c : ℕ) (slots carries : List ℕ) → NoneCounted carries → carriesOf c slots carries ≡ 0
 unfolding carriesOf
 none-carried c slots carries z =
-    sum-equal slotCount _ (λ i. 0) (λ i h. given-zero (eqb c (getD slots i 0)) (getD carries i 0) (z i)) ∙ sum-same slotCount 0
+    sum-none slotCount _ (λ i h. given-zero (eqb c (getD slots i 0)) (getD carries i 0) (z i))
 
 -- the count beside a slot is one of those of the cassette that it shows
 pub count-beside : (slots carries : List ℕ) (i : ℕ) → i < slotCount → getD carries i 0 ≤ carriesOf (getD slots i 0) slots carries

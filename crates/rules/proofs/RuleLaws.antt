@@ -6,12 +6,11 @@ use Prim.Native.Nat.{ℕ, zero, suc, _+_, _-_, _≤_, _<_}
 use native.Mathlib.Omega.{arith}
 use Rattle.stacks.specs.Count.{sum}
 use Rattle.stacks.specs.TwoStackReading.{twoStackReading}
-use Rattle.stacks.proofs.Counts.{same-length}
 use Rattle.store.specs.declared.Store.{Store}
-use Rattle.store.specs.Slots.{depth, height, upward, stack, cassettes, cassetteCount, emptyCount}
+use Rattle.store.specs.Slots.{depth, height, upward, stack, cassetteCount, emptyCount}
 use Rattle.store.specs.Sound.{Shaped, Sound}
 use Rattle.store.proofs.Acceptance.{accepted-sound}
-use Rattle.store.proofs.Counted.{heights-counted}
+use Rattle.store.proofs.Counted.{heights-counted, same-count}
 use Rattle.store.proofs.Views.{same-stacks}
 use Rattle.reach.specs.Pairs.{Comparable}
 use Rattle.reach.specs.Rules.{twoShaftReading, floor, RuleFor, Rule}
@@ -43,15 +42,11 @@ module _ (s t : Store) (p : Comparable s t) where
   goal : Sound t
   goal = accepted-sound t (p .goal)
 
-  same-count : cassetteCount s ≡ cassetteCount t
-  unfolding cassetteCount
-  same-count = same-length (cassettes s) (cassettes t) (p .cassettes)
-
   -- one or two shafts of both stores hold as many cassettes
   pub both-hold : (n : ℕ) → n ≡ cassetteCount s → s .m ≤ 2 → (n ≡ height s 0 + height s 1) × (n ≡ height t 0 + height t 1)
   both-hold n e h = (
     e ∙ two-hold s (start .shaped) (start .some-shaft) h,
-    e ∙ same-count ∙ two-hold t (goal .shaped) (goal .some-shaft) (rw (p .frame .shafts) at h),
+    e ∙ same-count s t (p .cassettes) ∙ two-hold t (goal .shaped) (goal .some-shaft) (rw (p .frame .shafts) at h),
   )
 
   -- stores of one shaft that read the same are the same

@@ -53,16 +53,22 @@ same-length (x ∷ l) r h =
     let rest : (c : ℕ) → count c l ≡ count c (s .above ++ s .under) = λ c. simp count-append (omega (arith, h c, simp count-append at (ap (count c) (s .split)))) in
     rw (s .split) (simp length-append (omega (arith, simp length-append at (same-length l (s .above ++ s .under) rest))))
 
+-- What adds up over lists adds up over the shafts, joined one after the other.
+pub joined-adds : (f : List ℕ → ℕ) → f [] ≡ 0 → ((l r : List ℕ) → f (l ++ r) ≡ f l + f r) → (S : Stacks) (joined : ℕ → List ℕ) → joined 0 ≡ []
+    → ((m : ℕ) → joined (suc m) ≡ joined m ++ S m) → (m : ℕ) → f (joined m) ≡ sum m (λ i. f (S i))
+unfolding sum
+joined-adds f none more S joined first next zero = ap f first ∙ none
+joined-adds f none more S joined first next (suc m) =
+    omega (arith, ap f (next m), more (joined m) (S m), joined-adds f none more S joined first next m)
+
 -- All shafts in one list.
 all : ℕ → Stacks → List ℕ
 all zero S = []
 all (suc m) S = all m S ++ S m
 
--- What adds up over a list adds up over the shafts.
 all-adds : (f : List ℕ → ℕ) → f [] ≡ 0 → ((l r : List ℕ) → f (l ++ r) ≡ f l + f r) → (m : ℕ) (S : Stacks) → f (all m S) ≡ sum m (λ i. f (S i))
-unfolding all sum
-all-adds f none more zero S = none
-all-adds f none more (suc m) S = omega (arith, more (all m S) (S m), all-adds f none more m S)
+unfolding all
+all-adds f none more m S = joined-adds f none more S (λ k. all k S) refl (λ k. refl) m
 
 -- Stores in which every number stands equally often hold equally many cassettes.
 pub same-total : (m : ℕ) (S T : Stacks) → ((c : ℕ) → occurrences m c S ≡ occurrences m c T) → total m S ≡ total m T

@@ -112,6 +112,10 @@ greatest-same zero k h = absurd (omega arith)
 greatest-same (suc zero) k h = omega arith
 greatest-same (suc (suc m)) k h = omega (arith, greatest-same (suc m) k (omega arith))
 
+-- The sum of what is 0 everywhere is 0.
+pub sum-none : (n : ℕ) (f : ℕ → ℕ) → ((i : ℕ) → i < n → f i ≡ 0) → sum n f ≡ 0
+sum-none n f h = omega (arith, sum-equal n f (λ i. 0) h, sum-same n 0)
+
 -- The sum of what is 0 but at one place is what it is there.
 pub sum-alone : (n : ℕ) (f : ℕ → ℕ) (a : ℕ) → a < n → ((i : ℕ) → i < n → i ≢ a → f i ≡ 0) → sum n f ≡ f a
 sum-alone n f a p h = omega (arith, sum-differ-one n f (λ i. 0) a p h, sum-same n 0)

@@ -11,7 +11,7 @@ use lib.ListN.{getD}
 use Rattle.stacks.specs.Count.{count, one}
 use Rattle.stacks.proofs.Counts.{count-append, count-last}
 use Rattle.stacks.proofs.Distinct.{Below}
-use Rattle.stacks.proofs.Sums.{sum-equal, sum-same}
+use Rattle.stacks.proofs.Sums.{sum-none}
 use Rattle.marks.specs.Cassettes.{numbers, mayRepeat, cassetteFault}
 use Rattle.marks.proofs.Faulted.{first-none}
 use Rattle.marks.proofs.Takes.{taken-cassette, cassette-taken, Once, once-more}
@@ -71,12 +71,7 @@ module _ (s : Store) where
 pub none-stands : (s : Store) (c : ℕ) → ((x k : ℕ) → k < height s x → slot s x (suc k) ≡ c → ⊥) → count c (cassettes s) ≡ 0
 unfolding count
 none-stands s c f =
-    omega (
-      arith,
-      cassettes-added s (count c) refl (count-append c),
-      sum-equal (s .m) _ (λ x. 0) (λ x _. none-shown (s .slots) x c (height s x) (f x)),
-      sum-same (s .m) 0,
-    )
+    cassettes-added s (count c) refl (count-append c) ∙ sum-none (s .m) _ (λ x _. none-shown (s .slots) x c (height s x) (f x))
 
 -- the cassettes of a store are what its slots may show
 pub cassettes-below : (s : Store) → ((i : ℕ) → getD (s .slots) i 0 < numbers) → Below numbers (cassettes s)
