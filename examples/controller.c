@@ -1,7 +1,8 @@
 /*
  * How a controller uses Halyardgage: check two images, ask whether the goal
  * can be reached, plan the lifts, and replay them. Then how deep some cassettes
- * are buried, and some of the ways in which a call is refused.
+ * are buried, a store with blanks, and some of the ways in which a call is
+ * refused.
  *
  *     cc -Iinclude examples/controller.c -Ltarget/staticlib -lhalyardgage
  */
@@ -205,6 +206,21 @@ static int asked(const struct image *store, struct halyard_order *orders,
     return 1;
 }
 
+/* A store with blanks: a plan, and how deep the nearest blank is buried. Gives
+ * whether all was good. */
+static int blanks(void)
+{
+    enum { BLANK = HALYARD_BLANK };
+    static const uint8_t cassettes[] = {1, BLANK, 2, 0, BLANK, BLANK, 3, 4, 0, 0};
+    static const uint8_t wanted[] = {BLANK, 2, 4, 1, 0, 3, BLANK, BLANK, 0, 0};
+    struct image start = pack(3, 4, cassettes);
+    struct image goal = pack(3, 4, wanted);
+    struct halyard_order orders[] = {{BLANK, 0, 0}};
+
+    printf("\nBlanks, number %d, which nobody tells apart\n", BLANK);
+    return planned(&start, &goal, 0) & asked(&start, orders, 1);
+}
+
 /* Some of the ways in which a call is refused. */
 static void refusals(const struct image *start, const struct image *goal)
 {
@@ -256,6 +272,7 @@ int main(void)
     print_store("store", &store);
     all_good &= asked(&store, orders, sizeof orders / sizeof orders[0]);
 
+    all_good &= blanks();
     refusals(&start, &goal);
     return all_good ? 0 : 1;
 }

@@ -2,9 +2,15 @@
  * Halyardgage: plans the lifts of a sample changer.
  *
  * A store has m shafts, 1 to 16, all of depth h, 1 to 16. Shafts count from 0,
- * rows from 1 at the bottom. A cassette is a number 1 to 255, and none stands
- * twice. A lift takes the top cassette of one shaft and sets it on top of
- * another.
+ * rows from 1 at the bottom. A cassette is a number 1 to 255. No cassette
+ * stands twice but the blank. A lift takes the top cassette of one shaft and
+ * sets it on top of another.
+ *
+ * BLANKS. The number HALYARD_BLANK is an empty carrier, and may stand any
+ * number of times: a store may hold as many cassettes as it has slots. Blanks
+ * are not told apart. A goal is reached when each slot shows the right number,
+ * whichever blank stands there, and an order that names the blank is answered
+ * for the one that is uncovered soonest.
  *
  * IMAGES. The calls take stores as images. Fields are packed most significant
  * bit first, with no gaps: form (4 bits, value 0), m - 1 (4), h - 1 (4); then
@@ -73,11 +79,13 @@ enum {
     HALYARD_IMAGE_ENDS = 2,        /* the image ends before its last field */
     HALYARD_HEIGHT = 3,            /* a height above h */
     HALYARD_CASSETTE_ZERO = 4,     /* a cassette number 0 */
-    HALYARD_CASSETTE_TWICE = 5,    /* a cassette that stood earlier */
+    HALYARD_CASSETTE_TWICE = 5,    /* a cassette that stood earlier, and is no
+                                      blank */
     /* 6 is retired: no call returns it, and it is not used again */
     HALYARD_PADDING = 7,           /* a padding bit set, or bytes after it */
     HALYARD_SHAPES_DIFFER = 8,     /* start and goal differ in m or h */
-    HALYARD_CASSETTES_DIFFER = 9,  /* start and goal differ in cassettes */
+    HALYARD_CASSETTES_DIFFER = 9,  /* start and goal differ in how often a
+                                      number stands */
     HALYARD_SPACE = 10,            /* the lent space is too small */
     HALYARD_SHAFTS = 11,           /* a lift names a shaft not below m, or one
                                       shaft twice */
@@ -91,7 +99,8 @@ enum {
 
     /* of an order, in its own record */
     HALYARD_ABSENT = 16, /* the cassette is not in the store, 0 included */
-    HALYARD_BURIED = 17  /* no list of lifts uncovers the cassette */
+    HALYARD_BURIED = 17  /* no list of lifts uncovers the cassette, nor, where a
+                            blank is named, any blank */
 };
 
 /* An order: the cassette that it names, and its answer. It has four bytes. */
@@ -101,16 +110,19 @@ struct halyard_order {
     uint8_t lifts;     /* the fewest lifts, or 0 where the order fails */
 };
 
+/* The cassette number of a blank. */
+#define HALYARD_BLANK 255
+
 /* The longest image, in bytes. (Proved: longest, in
  * crates/image/proofs/Lengths.antt.) */
-#define HALYARD_IMAGE_MAX 267
+#define HALYARD_IMAGE_MAX 268
 
 /* The list space that halyard_plan() asks for, in bytes, for shafts of depth h
- * and n cassettes, and the most that it ever asks for. (Proved:
- * list-space-most, in crates/store/proofs/Space.antt.) */
+ * and n cassettes, blanks included, and the most that it ever asks for.
+ * (Proved: list-space-most, in crates/store/proofs/Space.antt.) */
 #define HALYARD_LIST_SPACE(h, n) \
     (4 * (size_t)(h) * (size_t)(n) + 8 * (size_t)(n))
-#define HALYARD_LIST_MAX 18360
+#define HALYARD_LIST_MAX 18432
 
 /* The number in an answer: HALYARD_OK or one of the others. */
 static inline int halyard_number(uint64_t answer)
@@ -194,10 +206,11 @@ uint64_t halyard_replay(const uint8_t *image, size_t image_len,
  * a count of orders, not of bytes. Any number may be named, and one more than
  * once.
  * Returns HALYARD_OK. Each order then has its answer: HALYARD_OK and the fewest
- * lifts after which nothing stands on its cassette, no legal list having fewer,
- * 0 where it stands on top; or HALYARD_ABSENT where the cassette is not in the
- * store; or HALYARD_BURIED where no list of lifts uncovers it. Where the number
- * is not HALYARD_OK the lifts are 0. The cassettes named stay.
+ * lifts after which nothing stands on its cassette (on some blank, where it
+ * names the blank), no legal list having fewer, 0 where it stands on top; or
+ * HALYARD_ABSENT where the cassette is not in the store; or HALYARD_BURIED
+ * where no list of lifts uncovers it. Where the number is not HALYARD_OK the
+ * lifts are 0. The cassettes named stay.
  * Otherwise it writes nothing and returns the first fault of reading, 1 to 5
  * or 7. The count is 0 in both cases.
  */

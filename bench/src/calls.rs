@@ -2,9 +2,10 @@
 
 use crate::cases::Case;
 use halyard_outside::calls::{Answer, Order, c};
+use halyard_outside::inputs::MOST_LIST_SPACE;
 
 /// The list space lent: the most that any store asks for.
-pub const LENT: usize = 18_360;
+pub const LENT: usize = MOST_LIST_SPACE;
 
 /// Checks the start's image.
 pub fn check(case: &Case) -> Answer {

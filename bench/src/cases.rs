@@ -1,14 +1,24 @@
 //! The random stores that everything is timed on.
 
+use halyard_model::store::MOST_CASSETTE;
 use halyard_model::{Random, Store, image};
 use halyard_outside::calls::Order;
+use std::fmt::{self, Display};
 
-/// Shafts, depth, and empty slots.
+/// Shafts, depth, and empty slots, and whether half of the cassettes are blanks; if not, all cassettes are different.
 #[derive(Clone, Copy)]
 pub struct Shape {
     pub m: usize,
     pub h: usize,
     pub e: usize,
+    pub half_blank: bool,
+}
+
+impl Display for Shape {
+    fn fmt(&self, f: &mut fmt::Formatter) -> fmt::Result {
+        let blank = if self.half_blank { ", half blank" } else { "" };
+        write!(f, "{} × {}{blank}", self.m, self.h)
+    }
 }
 
 impl Shape {
@@ -22,11 +32,18 @@ impl Shape {
     }
 }
 
-/// 3 x 16, 4 x 16, 8 x 8 and 16 x 16 with 1, h/2, h and 2h empty slots.
+/// 3 x 16, 4 x 16, 8 x 8 and 16 x 16 with 1, h/2, h and 2h empty slots, and 16 x 16 with h empty slots and half of the cassettes blank.
 pub fn shapes() -> Vec<Shape> {
+    let shape = |m, h, e, half_blank| Shape {
+        m,
+        h,
+        e,
+        half_blank,
+    };
     [(3, 16), (4, 16), (8, 8), (16, 16)]
         .into_iter()
-        .flat_map(|(m, h)| [1, h / 2, h, 2 * h].map(|e| Shape { m, h, e }))
+        .flat_map(|(m, h)| [1, h / 2, h, 2 * h].map(|e| shape(m, h, e, false)))
+        .chain([shape(16, 16, 16, true)])
         .collect()
 }
 
@@ -55,15 +72,21 @@ pub fn cases(random: &mut Random, shape: Shape, count: usize) -> Vec<Case> {
 }
 
 fn case(random: &mut Random, shape: Shape) -> Case {
-    let start = random.store(shape.m, shape.h, shape.n());
+    let Shape { m, h, .. } = shape;
+    let n = shape.n();
+    let start = if shape.half_blank {
+        random.store_with_blanks(m, h, n, n / 2)
+    } else {
+        random.store(m, h, n)
+    };
     let goal = random.reachable_goal(&start);
     Case::new(start, goal)
 }
 
-/// An order for each cassette number, 1 to 255, in random order.
+/// An order for each cassette number, the blank's included, in random order.
 pub fn orders(random: &mut Random) -> Vec<Order> {
     random
-        .cassettes(255)
+        .cassettes(MOST_CASSETTE)
         .into_iter()
         .map(|cassette| Order::naming(cassette.into(), random))
         .collect()

@@ -48,10 +48,13 @@ fn notes(seed: u64, stores: usize, rounds: usize) -> String {
 Processor: {}. Seed {seed}.
 
 - (a) is Halyardgage's C calls. (b) is plain Rust that does the same work from the same images, and refuses what the calls
-  refuse: reader, writer, lifts, rule and the answer to an order are those of the tests' model, none of it made for speed, and
-  it allocates, where (a) does not. Its plan is the thesis's own solve, mended, on arrays, which covers e ≥ h. (c) is a full search in Rust, from
-  stores that have been read already, which also gives the fewest lifts; it is left out where it finds more than
-  {MOST_STORES} stores.
+  refuse: reader, writer, lifts and rule are those of the tests' model, none of it made for speed, and it allocates, where (a)
+  does not. To answer an order it looks for a blank in every shaft, and for any other number until it is found. Its plan is
+  the thesis's own solve, mended, on arrays, which covers e ≥ h. (c) is a full search in Rust, from stores that have been read
+  already, which also gives the fewest lifts; it is left out where it finds more than {MOST_STORES} stores.
+- \"Half blank\": half of the cassettes are blanks. In all other rows no two cassettes are the same, so that at most one is a
+  blank. The thesis knows no blanks: (b) first gives each a number of its own, in the order in which they stand, in start and
+  goal alike, and so brings each to one slot where any blank would do.
 - Each row has {stores} random pairs of stores, every goal one that can be reached, the same pairs for (a) and (b); for (c)
   the first {SEARCHED} of them. A check is of the start. (a) and (b) replay the same lists, which are (a)'s.
 - Each time is of one call: for each pair the median of {rounds} rounds, and the mean of these over the pairs. A round goes
@@ -76,10 +79,10 @@ fn processor() -> String {
 }
 
 fn row(table: &mut String, shape: Shape, by: &str, measured: &Measured) {
-    let Shape { m, h, e } = shape;
     writeln!(
         table,
-        "| {m} × {h} | {e} | {} | {by} | {} | {} | {} | {} | {} |",
+        "| {shape} | {} | {} | {by} | {} | {} | {} | {} | {} |",
+        shape.e,
         shape.n(),
         microseconds(measured.plan),
         microseconds(measured.yes_or_no),
@@ -123,7 +126,6 @@ struct Ratios {
 
 impl Ratios {
     fn add(&mut self, shape: Shape, calls: &Measured, plain: &Measured) {
-        let Shape { m, h, e } = shape;
         let ratios = [
             ratio(calls.plan, plain.plan),
             ratio(calls.yes_or_no, plain.yes_or_no),
@@ -133,7 +135,7 @@ impl Ratios {
         for (greatest, ratio) in self.greatest.iter_mut().zip(ratios) {
             *greatest = greater(*greatest, ratio);
         }
-        self.rows += &format!("| {m} × {h} | {e} | {} |\n", joined(ratios));
+        self.rows += &format!("| {shape} | {} | {} |\n", shape.e, joined(ratios));
     }
 
     fn table(&self) -> String {
@@ -183,7 +185,7 @@ impl Orders {
     fn add(&mut self, shape: Shape, cases: &[Case], rounds: usize) {
         let [calls, plain] = timing::orders(cases, &self.row, rounds);
         self.rows += &format!(
-            "| 16 × 16 | {} | {} | {} | {} | {} |\n",
+            "| {shape} | {} | {} | {} | {} | {} |\n",
             shape.e,
             shape.n(),
             microseconds(calls),
@@ -195,8 +197,8 @@ impl Orders {
     fn table(&self) -> String {
         format!(
             "\
-{} orders in one call, one for each cassette number, of which n stand in the store: the time of the whole row, on the starts
-above.
+{} orders in one call, one for each cassette number, the blank's included: the time of the whole row, on the starts above. Where all
+cassettes differ n of the numbers stand in the store, and with half of them blank n/2 and the blank's.
 
 | m × h | e | n | (a), µs | (b), µs | (a) / (b) |
 |---|--:|--:|--:|--:|--:|

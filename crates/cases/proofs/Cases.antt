@@ -5,7 +5,7 @@ use mathlib.Core.List.{List, [], _∷_}
 use mathlib.Core.Path.{_≡_, refl, subst}
 use lib.Dec.{eqb}
 use Rattle.stacks.specs.Count.{sum, greatest, count}
-use Rattle.marks.specs.Cassettes.{mayRepeat, cassetteFault}
+use Rattle.marks.specs.Cassettes.{isBlank, cassetteFault}
 use Rattle.lifts.specs.Lifting.{shown, placedAt, refusalBy}
 use Rattle.rows.specs.Rows.{rowsFault, rowsUp, rowsDown}
 use Rattle.store.specs.Accept.{storeFault}
@@ -24,7 +24,7 @@ use Rattle.reach.specs.Rules.{twoShaftReading, floor}
 use Rattle.reach.specs.Tests.{ruleTest}
 use Rattle.reach.proofs.RuleTests.{list-test, store-test, reachable-test}
 use Rattle.reach.proofs.Sets.{comparable}
-use Rattle.cases.specs.Claims.{Claim, liftGets, yesBy, unreachable, spaceIs, readingGets, imageIs, ClaimHolds, AllHold}
+use Rattle.cases.specs.Claims.{Claim, liftGets, yesBy, unreachable, pairGets, spaceIs, readingGets, imageIs, ClaimHolds, AllHold}
 use Rattle.cases.specs.Table.{table}
 use Rattle.cases.specs.Tests.{readAlike, tested, allTested}
 
@@ -49,6 +49,7 @@ holds (unreachable s t) e =
     let p = both-true (eqb (pairFault s t) 0) _ e in
     let f = eqb-true (pairFault s t) 0 (p .0) in
     (f, reachable-test s t (comparable s t f) .not-so (not-true (ruleTest s t) (p .1)))
+holds (pairGets s t k) e = eqb-true (pairFault s t) k e
 holds (spaceIs s k) e = eqb-true (listSpace s) k e
 holds (readingGets bytes k) e = read-alike _ _ e
 holds (imageIs bytes s) e =
@@ -61,5 +62,5 @@ all-hold [] e = tt
 all-hold (c ∷ cs) e = let p = both-true (tested c) (allTested cs) e in (holds c (p .0), all-hold cs (p .1))
 
 pub cases : AllHold table
-unfolding allTested ruleTest pairFault liftNumber storeFault rowsFault cassetteFault mayRepeat shown placedAt refusalBy rowsUp rowsDown depthBy deepest sum greatest cassettesBelow cassettes cassetteCount count emptyCount listSpace floor twoShaftReading lifted liftRefusal replayFrom readImage nextField bitsOf imageOf bits packed bytesOf
+unfolding allTested ruleTest pairFault liftNumber storeFault rowsFault cassetteFault isBlank shown placedAt refusalBy rowsUp rowsDown depthBy deepest sum greatest cassettesBelow cassettes cassetteCount count emptyCount listSpace floor twoShaftReading lifted liftRefusal replayFrom readImage nextField bitsOf imageOf bits packed bytesOf
 cases = all-hold table refl

@@ -35,6 +35,8 @@ pub data Claim : Type 0 where
   yesBy : Store → List ℕ → Store → Claim
   -- the goal can't be reached: 15
   unreachable : Store → Store → Claim
+  -- two stores get a number before any list is asked for
+  pairGets : Store → Store → ℕ → Claim
   -- so many bytes of list space suffice
   spaceIs : Store → ℕ → Claim
   -- an image is refused with a number
@@ -46,6 +48,7 @@ abbrev pub ClaimHolds : Claim → Type 0
 ClaimHolds (liftGets s a b k) = liftNumber s a b ≡ k
 ClaimHolds (yesBy s bs t) = (pairFault s t ≡ 0) × Leads s bs t
 ClaimHolds (unreachable s t) = (pairFault s t ≡ 0) × (Reachable s t → ⊥)
+ClaimHolds (pairGets s t k) = pairFault s t ≡ k
 ClaimHolds (spaceIs s k) = listSpace s ≡ k
 ClaimHolds (readingGets bytes k) = readImage bytes ≡ refused k
 ClaimHolds (imageIs bytes s) = (readImage bytes ≡ record { store = s; number = 0 }) × (imageOf s ≡ bytes)

@@ -1,8 +1,10 @@
--- The cases that document 01 marks to be proved, "Filled stores to try", one row for each claim.
+-- The cases that document 01 marks to be proved, "Filled stores to try", and some with blanks (request 5/13), one row for each claim.
 use mathlib.Core.List.{List, [], _∷_}
 use Prim.Native.Nat.{ℕ}
+use lib.ListN.{replicate}
+use Rattle.marks.specs.Cassettes.{blank}
 use Rattle.store.specs.declared.Store.{Store}
-use Rattle.cases.specs.Claims.{Claim, liftGets, yesBy, unreachable, spaceIs, readingGets, imageIs, storeOf}
+use Rattle.cases.specs.Claims.{Claim, liftGets, yesBy, unreachable, pairGets, spaceIs, readingGets, imageIs, storeOf}
 
 -- "m 3, h 3, no cassette"
 abbrev pub bare : Store
@@ -56,6 +58,41 @@ singlesExchanged = storeOf 1 ((2 ∷ []) ∷ (1 ∷ []) ∷ [] ∷ [])
 abbrev pub example : Store
 example = storeOf 2 ((1 ∷ 2 ∷ []) ∷ [] ∷ (3 ∷ []) ∷ [])
 
+-- one shaft with blanks, and two of its cassettes exchanged, a blank one of them
+abbrev pub oneBlank : Store
+oneBlank = storeOf 3 ((blank ∷ 1 ∷ blank ∷ []) ∷ [])
+
+abbrev pub oneBlankTurned : Store
+oneBlankTurned = storeOf 3 ((1 ∷ blank ∷ blank ∷ []) ∷ [])
+
+-- two shafts with blanks, the same reading, and another
+abbrev pub twoBlank : Store
+twoBlank = storeOf 3 ((blank ∷ 1 ∷ []) ∷ (blank ∷ []) ∷ [])
+
+abbrev pub twoBlankShifted : Store
+twoBlankShifted = storeOf 3 ((blank ∷ []) ∷ (blank ∷ 1 ∷ []) ∷ [])
+
+abbrev pub twoBlankTurned : Store
+twoBlankTurned = storeOf 3 ((1 ∷ []) ∷ (blank ∷ blank ∷ []) ∷ [])
+
+-- three shafts with blanks, e 1: the lowest rows equal, though another blank stands there, and not equal
+abbrev pub threeBlank : Store
+threeBlank = storeOf 2 ((blank ∷ 1 ∷ []) ∷ (blank ∷ blank ∷ []) ∷ (2 ∷ []) ∷ [])
+
+abbrev pub threeBlankMixed : Store
+threeBlankMixed = storeOf 2 ((blank ∷ blank ∷ []) ∷ (blank ∷ []) ∷ (2 ∷ 1 ∷ []) ∷ [])
+
+abbrev pub threeBlankChanged : Store
+threeBlankChanged = storeOf 2 ((1 ∷ blank ∷ []) ∷ (blank ∷ blank ∷ []) ∷ (2 ∷ []) ∷ [])
+
+-- one blank fewer
+abbrev pub threeBlankFewer : Store
+threeBlankFewer = storeOf 2 ((blank ∷ 1 ∷ []) ∷ (blank ∷ []) ∷ (2 ∷ []) ∷ [])
+
+-- 16 shafts of depth 16, full of blanks
+abbrev pub allBlank : Store
+allBlank = storeOf 16 (replicate 16 (replicate 16 blank))
+
 abbrev pub table : List Claim
 table =
     yesBy bare [] bare
@@ -76,4 +113,19 @@ table =
     ∷ imageIs (0x02 ∷ 0x11 ∷ 0x00 ∷ 0x81 ∷ 0x00 ∷ 0x20 ∷ 0x60 ∷ []) example
     ∷ readingGets (0x02 ∷ 0x11 ∷ 0x00 ∷ 0x81 ∷ 0x00 ∷ 0x20 ∷ 0x61 ∷ []) 7
     ∷ readingGets (0x02 ∷ 0x11 ∷ 0x00 ∷ 0x81 ∷ 0x00 ∷ 0x20 ∷ []) 2
+    -- one, two and three shafts with blanks
+    ∷ yesBy oneBlank [] oneBlank
+    ∷ unreachable oneBlank oneBlankTurned
+    ∷ yesBy twoBlank (0x01 ∷ []) twoBlankShifted
+    ∷ unreachable twoBlank twoBlankTurned
+    ∷ yesBy threeBlank (0x02 ∷ 0x10 ∷ []) threeBlankMixed
+    ∷ unreachable threeBlank threeBlankChanged
+    -- "number 9 compares how often each number stands"
+    ∷ pairGets threeBlank threeBlankFewer 9
+    -- "Number 5 no longer applies to it": two blanks, and two cassettes 254
+    ∷ imageIs (0x00 ∷ 0x11 ∷ 0x7F ∷ 0xFF ∷ 0x80 ∷ []) (storeOf 2 ((blank ∷ blank ∷ []) ∷ []))
+    ∷ readingGets (0x00 ∷ 0x11 ∷ 0x7F ∷ 0x7F ∷ 0x00 ∷ []) 5
+    -- "A store may now hold 256 cassettes .. and the program lends 18,432 bytes"
+    ∷ yesBy allBlank [] allBlank
+    ∷ spaceIs allBlank 18432
     ∷ []

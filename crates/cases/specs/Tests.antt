@@ -9,7 +9,7 @@ use Rattle.reach.specs.Pairs.{pairFault}
 use Rattle.reach.specs.Tests.{sameList, sameStore, ruleTest}
 use Rattle.image.specs.Image.{imageOf}
 use Rattle.image.specs.Reading.{Reading, refused, readImage}
-use Rattle.cases.specs.Claims.{Claim, liftGets, yesBy, unreachable, spaceIs, readingGets, imageIs}
+use Rattle.cases.specs.Claims.{Claim, liftGets, yesBy, unreachable, pairGets, spaceIs, readingGets, imageIs}
 
 abbrev pub readAlike : Reading → Reading → Bool
 readAlike o q = eqb (o .number) (q .number) && sameStore (o .store) (q .store)
@@ -18,6 +18,7 @@ unfoldable pub tested : Claim → Bool
 tested (liftGets s a b k) = eqb (liftNumber s a b) k
 tested (yesBy s bs t) = eqb (pairFault s t) 0 && (eqb (replayFrom s bs .number) 0 && sameStore (replayFrom s bs .reached) t)
 tested (unreachable s t) = eqb (pairFault s t) 0 && not (ruleTest s t)
+tested (pairGets s t k) = eqb (pairFault s t) k
 tested (spaceIs s k) = eqb (listSpace s) k
 tested (readingGets bytes k) = readAlike (readImage bytes) (refused k)
 tested (imageIs bytes s) = readAlike (readImage bytes) (record { store = s; number = 0 }) && sameList (imageOf s) bytes

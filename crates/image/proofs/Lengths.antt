@@ -1,4 +1,4 @@
--- How long an image is: 12 bits, 5 for each shaft and 8 for each cassette; "The longest image has 267 bytes." (document 01, "The image").
+-- How long an image is: 12 bits, 5 for each shaft and 8 for each cassette (document 01, "The image"); "the longest image has 268 bytes" (request 5/13).
 use mathlib.Core.List.{List}
 use mathlib.Core.Path.{_≡_, refl, _∙_}
 use Prim.Native.Nat.{ℕ, zero, suc, _+_, _*_, _/_, _≤_, _<_}
@@ -13,7 +13,7 @@ use Rattle.store.specs.declared.Store.{Store}
 use Rattle.rows.proofs.Upward.{rows-length}
 use Rattle.store.specs.Slots.{height, cassetteCount}
 use Rattle.store.specs.Accept.{Accepted}
-use Rattle.store.proofs.Acceptance.{accepted-shaped, accepted-few}
+use Rattle.store.proofs.Acceptance.{accepted-shaped, accepted-most}
 use Rattle.store.proofs.Counted.{heights-counted}
 use Rattle.image.specs.Image.{heightWidth, cassetteWidth, headBits, columnBits, columnsBits, shaftsBits, imageBits, imageLength}
 
@@ -48,10 +48,10 @@ pub length-image : (s : Store) → length (imageBits s) ≡ 12 + (5 * s .m + 8 *
 unfolding imageBits
 length-image s = length-append (headBits s) (shaftsBits s (s .m)) ∙ omega (arith, length-head s, length-shafts s (s .m), heights-counted s)
 
--- "The longest image has 267 bytes."
-pub longest : (s : Store) → Accepted s → imageLength s ≤ 267
+-- "the longest image has 268 bytes"
+pub longest : (s : Store) → Accepted s → imageLength s ≤ 268
 unfolding imageLength
-longest s e = omega (arith, length-image s, accepted-few s e, accepted-shaped s e .shafts)
+longest s e = omega (arith, length-image s, accepted-most s e, accepted-shaped s e .shafts)
 
 pub image-length : (s : Store) → imageLength s ≡ (12 + length (shaftsBits s (s .m)) + 7) / 8
 unfolding imageLength imageBits

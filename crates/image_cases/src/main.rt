@@ -1,5 +1,6 @@
 // Reads and writes images beyond the proved cases, and prints what each comes to. Held to the file stdout.
 use libc::STDOUT_FILENO;
+use marks::blank;
 use numbers::read_number;
 use numbers::write_number;
 use reading::read;
@@ -79,7 +80,12 @@ fn written(what: &[u8], s: Store, out: &mut [u8]) {
     }
 }
 
-// m 16, h 16: cassettes 1 to 255 from shaft 0 upward, and one empty slot.
+// Cassette i + 1 of those that are no blanks, and then blanks.
+fn numbered(i: usize) -> u8 {
+    if i < 254 { i as u8 + 1 } else { blank() }
+}
+
+// m 16, h 16, full: cassettes 1 to 254 from shaft 0 upward, and two blanks.
 fn fullest() -> Store {
     let mut s = empty(16, 16);
     let mut x: usize = 0;
@@ -87,21 +93,17 @@ fn fullest() -> Store {
         s.heights[x] = 16;
         x += 1;
     }
-    s.heights[15] = 15;
     let mut i: usize = 0;
-    let mut c: u8 = 1;
-    while i < 255 {
-        s.slots[i] = c;
-        c = c % 255 + 1;
+    while i < 256 {
+        s.slots[i] = numbered(i);
         i += 1;
     }
     s
 }
 
-// The same with a cassette in the last slot too.
-fn one_more(c: u8) -> Store {
+// The same with another cassette in the last slot.
+fn last_is(c: u8) -> Store {
     let mut s = fullest();
-    s.heights[15] = 16;
     s.slots[255] = c;
     s
 }
@@ -109,6 +111,7 @@ fn one_more(c: u8) -> Store {
 fn images_read() {
     shown(b"the example: ", b"\x02\x11\x00\x81\x00\x20\x60");
     shown(b"m 1, h 1, empty: ", b"\x00\x00\x00");
+    shown(b"two blanks: ", b"\x00\x11\x7F\xFF\x80");
 }
 
 fn images_cut() {
@@ -122,6 +125,7 @@ fn images_faulty() {
     shown(b"height 3 of 2: ", b"\x02\x11\x80\x81\x00\x20\x60");
     shown(b"cassette 0: ", b"\x02\x11\x00\x01\x00\x20\x60");
     shown(b"cassette 1 twice: ", b"\x02\x11\x00\x80\x80\x20\x60");
+    shown(b"cassette 254 twice: ", b"\x00\x11\x7F\x7F\x00");
 }
 
 fn images_padded() {
@@ -135,16 +139,16 @@ fn images_padded() {
 fn stores_written() {
     let mut out = [255u8; 300];
     written(b"m 1, h 1, empty: ", empty(1, 1), &mut out);
-    written(b"m 16, h 16, 255 cassettes: ", fullest(), &mut out);
-    read_back(&out, 267);
+    written(b"m 16, h 16, 256 cassettes: ", fullest(), &mut out);
+    read_back(&out, 268);
 }
 
 fn stores_refused() {
     let mut kept = [255u8; 2];
     written(b"m 0: ", empty(0, 1), &mut kept);
     written(b"two bytes lent for three: ", empty(1, 1), &mut kept);
-    written(b"a 256th cassette, 0: ", one_more(0), &mut kept);
-    written(b"a 256th cassette, 255 again: ", one_more(255), &mut kept);
+    written(b"a 256th cassette, 0: ", last_is(0), &mut kept);
+    written(b"a 256th cassette, 254 again: ", last_is(254), &mut kept);
 }
 
 fn main() {

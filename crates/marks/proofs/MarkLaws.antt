@@ -12,7 +12,7 @@ use lib.Dec.{eqb}
 use lib.ListN.{length, getD, take, set, replicate, length-set, length-replicate}
 use lib.Seq.{getD-set-same, getD-set-other}
 use Rattle.stacks.specs.Count.{count, one}
-use Rattle.stacks.proofs.Distinct.{Below}
+use Rattle.stacks.proofs.Counts.{Below}
 use Rattle.marks.specs.Marking.{marked, withMark, withMarks, markCount}
 use Rattle.marks.proofs.Words.{set-bit-same, set-bit-other, set-bit-ones}
 
@@ -88,7 +88,7 @@ mark-counts : (w : List ℕ) (c : ℕ) → c < 64 * length w → marked w c ≡ 
 unfolding marked withMark
 mark-counts w c h e = count-set w (c / 64) _ (omega arith) (set-bit-ones (getD w (c / 64) 0) (c % 64) e)
 
--- "n is the number of marks"
+-- one mark more for each cassette, where none is marked before and none stands twice
 counts-all : (n : ℕ) (w l : List ℕ) → n ≤ 64 * length w → Below n l → ((c : ℕ) → c < n → marked w c + count c l ≤ 1) → markCount (withMarks w l) ≡ markCount w + length l
 unfolding withMarks count
 counts-all n w [] k b h = omega arith

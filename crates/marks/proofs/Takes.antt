@@ -1,6 +1,6 @@
 -- Taking one cassette more: the fault by what is marked, and the marks with it.
 use borrow.Author.Tests.{eqb-true, eq-eqb, ne-eqb, lt-ltb, le-ltb, ltb-false, eqb-false}
-use mathlib.Core.Bool.{Bool, true, false, not, _&&_}
+use mathlib.Core.Bool.{Bool, true, false, not, _&&_, cond}
 use mathlib.Core.List.{List, [], _∷_, _++_}
 use mathlib.Core.Path.{_≡_, refl, sym, ap, _∙_}
 use Prim.Native.Nat.{ℕ, _+_, min, _≤_, _<_}
@@ -10,63 +10,60 @@ use lib.Dec.{eqb, ltb}
 use lib.ListN.{length}
 use Rattle.stacks.specs.Count.{count, one}
 use Rattle.stacks.proofs.Counts.{count-last}
-use Rattle.stacks.proofs.Distinct.{distinct-few}
 use Rattle.marks.specs.declared.Taken.the-variants.{Added, NumberZero, Twice}
-use Rattle.marks.specs.Cassettes.{numbers, mayRepeat, given, cassetteFault}
-use Rattle.marks.specs.Marking.{markWords, noMarks, marked, withMark, withMarks, markCount, Marked}
+use Rattle.marks.specs.Cassettes.{numbers, blank, isBlank, given, cassetteFault}
+use Rattle.marks.specs.Marking.{markWords, noMarks, marked, withMark, withMarks, others, marksOf, markCount, Marked}
 use Rattle.marks.specs.Taking.{TakenIs}
-use Rattle.marks.proofs.Faulted.{first-none, first-either, given-either, given-none, both-true}
+use Rattle.marks.proofs.Faulted.{first-none, first-either, given-either, given-none}
 use Rattle.marks.proofs.MarkLaws.{with-more, marked-exactly, count-of}
-
--- "No cassette stands twice in a store."
-pub none-repeats : (c : ℕ) → mayRepeat c ≡ false
-unfolding mayRepeat
-none-repeats c = refl
+use Rattle.marks.proofs.Others.{no-other-blank, others-last, others-count, others-fewer, no-blank, others-length}
 
 -- the fault of one cassette more, by cases
 module _ (l : List ℕ) (c : ℕ) where
   pub cassette-either : (P : ℕ → Type 0) → P 0 → P 4 → P 5 → P (cassetteFault l c)
   unfolding cassetteFault
   cassette-either P none four five =
-      first-either P _ _ (given-either P (eqb c 0) 4 none four) (given-either P (not (mayRepeat c) && ltb 0 (count c l)) 5 none five)
+      first-either P _ _ (given-either P (eqb c 0) 4 none four) (given-either P (not (isBlank c) && ltb 0 (count c l)) 5 none five)
 
-  pub cassette-taken : (c ≡ 0 → ⊥) → (mayRepeat c ≡ false → count c l ≡ 0) → cassetteFault l c ≡ 0
+  pub cassette-taken : (c ≡ 0 → ⊥) → (isBlank c ≡ false → count c l ≡ 0) → cassetteFault l c ≡ 0
   unfolding cassetteFault
-  cassette-taken n h = simp (ne-eqb c 0 n) (by-repeat (mayRepeat c) refl)
+  cassette-taken n h = simp (ne-eqb c 0 n) (by-repeat (isBlank c) refl)
     where
-      by-repeat : (r : Bool) → mayRepeat c ≡ r → given (not r && ltb 0 (count c l)) 5 ≡ 0
+      by-repeat : (r : Bool) → isBlank c ≡ r → given (not r && ltb 0 (count c l)) 5 ≡ 0
       by-repeat true e = refl
       by-repeat false e = simp (le-ltb 0 (count c l) (omega (arith, h e)))
 
-  pub taken-cassette : cassetteFault l c ≡ 0 → (c ≡ 0 → ⊥) × (mayRepeat c ≡ false → count c l ≡ 0)
+  pub taken-cassette : cassetteFault l c ≡ 0 → (c ≡ 0 → ⊥) × (isBlank c ≡ false → count c l ≡ 0)
   unfolding cassetteFault
   taken-cassette e =
       let p = first-none _ _ e in
       (eqb-false c 0 (given-none _ 3 (p .0)), λ r. let h : count c l ≤ 0 = ltb-false 0 (count c l) (sym (ap (λ (t : Bool). not t && ltb 0 (count c l)) r) ∙ given-none _ 4 (p .1)) in omega arith)
 
--- what the mark of a cassette says
-module _ (words l : List ℕ) (c : ℕ) (m : Marked words l) (h : c < numbers) where
-  pub mark-is : marked words c ≡ min 1 (count c l)
-  mark-is = ap (λ (v : List ℕ). marked v c) (m .marks) ∙ marked-exactly markWords l c h
+-- what the mark of a number says
+pub mark-is : (words l : List ℕ) (c : ℕ) → Marked words l → c < numbers → marked words c ≡ min 1 (count c (others l))
+unfolding marksOf
+mark-is words l c m h = ap (λ (v : List ℕ). marked v c) (m .marks) ∙ marked-exactly markWords (others l) c h
 
+-- and that of one that is no blank
+module _ (words l : List ℕ) (c : ℕ) (m : Marked words l) (h : c < numbers) (e : isBlank c ≡ false) where
   -- a marked cassette stands in the list
   mark-found : eqb (marked words c) 1 ≡ true → 0 < count c l
-  mark-found t = omega (arith, mark-is, eqb-true (marked words c) 1 t)
+  mark-found t = omega (arith, mark-is words l c m h, others-count c e l, eqb-true (marked words c) 1 t)
 
   -- a cassette without a mark does not
   mark-missing : eqb (marked words c) 1 ≡ false → count c l ≡ 0
-  mark-missing t = let n : marked words c ≡ 1 → ⊥ = eqb-false (marked words c) 1 t in omega (arith, mark-is)
+  mark-missing t = let n : marked words c ≡ 1 → ⊥ = eqb-false (marked words c) 1 t in omega (arith, mark-is words l c m h, others-count c e l)
 
 pub nothing-marked : Marked noMarks []
-unfolding withMarks count
+unfolding marksOf withMarks others count
 nothing-marked = record { marks = refl; below = λ c h. absurd (omega arith); once = λ c r. omega arith }
 
--- only numbers that may repeat stand twice in a list
+-- no number but the blank stands twice in a list
 abbrev pub Once : List ℕ → Type 0
-Once l = (c : ℕ) → mayRepeat c ≡ false → count c l ≤ 1
+Once l = (c : ℕ) → isBlank c ≡ false → count c l ≤ 1
 
--- and so in the list with one more, that stood nowhere unless it may
-pub once-more : (l : List ℕ) (x : ℕ) → Once l → (mayRepeat x ≡ false → count x l ≡ 0) → Once (l ++ (x ∷ []))
+-- and so in the list with one more, that stood nowhere unless it is a blank
+pub once-more : (l : List ℕ) (x : ℕ) → Once l → (isBlank x ≡ false → count x l ≡ 0) → Once (l ++ (x ∷ []))
 once-more l x p e c r =
     rw (count-last c l x)
     (elim (ℕ-discrete c x) [
@@ -75,15 +72,21 @@ once-more l x p e c r =
     ])
 
 -- the marks of the list with one more
-marked-more : (words l : List ℕ) (c : ℕ) → Marked words l → c < numbers → (mayRepeat c ≡ false → count c l ≡ 0) → Marked (withMark words c) (l ++ (c ∷ []))
+marked-more : (words l : List ℕ) (c : ℕ) → Marked words l → c < numbers → (isBlank c ≡ false → count c l ≡ 0)
+    → Marked (cond (isBlank c) words (withMark words c)) (l ++ (c ∷ []))
+unfolding marksOf
 marked-more words l c m h z = record {
-  marks = ap (λ (w : List ℕ). withMark w c) (m .marks) ∙ sym (with-more _ l c);
+  marks = go (isBlank c) ∙ ap (withMarks noMarks) (sym (others-last l c));
   below = λ d p. elim (ℕ-discrete d c) [
     | yes e ↦ omega arith
     | no n ↦ m .below d (omega (arith, count-last d l c, ap one (ne-eqb d c n)))
   ];
   once = once-more l c (m .once) z;
 }
+  where
+    go : (b : Bool) → cond b words (withMark words c) ≡ withMarks noMarks (cond b (others l) (others l ++ (c ∷ [])))
+    go true = m .marks
+    go false = ap (λ (w : List ℕ). withMark w c) (m .marks) ∙ sym (with-more noMarks (others l) c)
 
 -- the answers of taking a cassette
 module _ (words : List ℕ) (c : ℕ) where
@@ -97,32 +100,40 @@ module _ (words : List ℕ) (c : ℕ) where
   }
 
   module _ (n : c ≡ 0 → ⊥) (h : c < numbers) where
-    pub twice-is : (not (mayRepeat c) && eqb (marked words c) 1) ≡ true → TakenIs words c words Twice
-    unfolding cassetteFault
-    twice-is t =
-        let p = both-true (not (mayRepeat c)) (eqb (marked words c) 1) t in
-        record {
-          number = sym (simp (ne-eqb c 0 n, t));
-          words-are = refl;
-          fault = λ before m. sym (simp (ne-eqb c 0 n, p .0, lt-ltb 0 (count c before) (mark-found words before c m h (p .1))));
-          marks = λ before m. refl;
-        }
-
-    pub added-is : (not (mayRepeat c) && eqb (marked words c) 1) ≡ false → TakenIs words c (withMark words c) Added
-    added-is t =
-        let z : (before : List ℕ) → Marked words before → mayRepeat c ≡ false → count c before ≡ 0 =
-        λ before m r. mark-missing words before c m h (sym (ap (λ (b : Bool). not b && eqb (marked words c) 1) r) ∙ t) in
-        record {
+    -- a cassette that has no fault: a blank, or one that has no mark
+    added : {words′ : List ℕ} → words′ ≡ cond (isBlank c) words (withMark words c) → (not (isBlank c) && eqb (marked words c) 1) ≡ false → TakenIs words c words′ Added
+    added e t =
+        let z : (before : List ℕ) → Marked words before → isBlank c ≡ false → count c before ≡ 0 =
+        λ before m r. mark-missing words before c m h r (sym (ap (λ (b : Bool). not b && eqb (marked words c) 1) r) ∙ t) in
+        rw e (record {
           number = sym (simp (ne-eqb c 0 n, t));
           words-are = refl;
           fault = λ before m. sym (cassette-taken before c n (z before m));
           marks = λ before m. marked-more words before c m h (z before m);
-        }
+        })
 
--- "n is the number of marks"
-pub marks-counted : (words l : List ℕ) → Marked words l → markCount words ≡ length l
-marks-counted words l m = ap markCount (m .marks) ∙ count-of markWords l (m .below) (λ c. m .once c (none-repeats c))
+    pub blank-is : isBlank c ≡ true → TakenIs words c words Added
+    blank-is b = added (simp b) (simp b)
 
--- "Cassette numbers are distinct and lie in 1 to 255, so a 256th cassette has already given 4 or 5." (request 3/13)
-pub marked-few : (words l : List ℕ) → Marked words l → count 0 l ≡ 0 → length l < numbers
-marked-few words l m z = distinct-few numbers l (omega arith) (m .below) z (λ c. m .once c (none-repeats c))
+    module _ (b : isBlank c ≡ false) where
+      pub twice-is : eqb (marked words c) 1 ≡ true → TakenIs words c words Twice
+      unfolding cassetteFault
+      twice-is t = record {
+        number = sym (simp (ne-eqb c 0 n, b, t));
+        words-are = refl;
+        fault = λ before m. sym (simp (ne-eqb c 0 n, b, lt-ltb 0 (count c before) (mark-found words before c m h b t)));
+        marks = λ before m. refl;
+      }
+
+      pub added-is : eqb (marked words c) 1 ≡ false → TakenIs words c (withMark words c) Added
+      added-is t = added (simp b) (simp (b, t))
+
+-- "n is the marks of the others plus the count of blanks" (request 5/13)
+pub marks-counted : (words l : List ℕ) → Marked words l → markCount words + count blank l ≡ length l
+unfolding marksOf
+marks-counted words l m =
+    let once : (c : ℕ) → count c (others l) ≤ 1 = λ c. elim (ℕ-discrete c blank) [
+      | yes e ↦ rw e (omega (arith, no-blank l))
+      | no n ↦ omega (arith, others-fewer c l, m .once c (no-other-blank c n))
+    ] in
+    omega (arith, ap markCount (m .marks), count-of markWords (others l) (λ c h. m .below c (omega (arith, others-fewer c l))) once, others-length l)

@@ -9,9 +9,12 @@ use Rattle.stacks.specs.Count.{count}
 abbrev pub numbers : ℕ
 numbers = 256
 
--- which numbers may stand more than once: "No cassette stands twice in a store."
-unfoldable pub mayRepeat : ℕ → Bool
-mayRepeat c = false
+-- "Cassette number 255 means a blank from now on and may stand any number of times" (request 5/13)
+abbrev pub blank : ℕ
+blank = 255
+
+unfoldable pub isBlank : ℕ → Bool
+isBlank c = eqb c blank
 
 -- the number k where the test holds, else none
 abbrev pub given : Bool → ℕ → ℕ
@@ -23,6 +26,6 @@ abbrev pub first : ℕ → ℕ → ℕ
 first zero k = k
 first (suc j) k = suc j
 
--- "4. A cassette number 0. 5. A cassette number that stood earlier in the image." (4 before 5)
+-- "4. A cassette number 0. 5. A cassette number that stood earlier in the image." (4 before 5); "Number 5 no longer applies to" the blank (request 5/13)
 unfoldable pub cassetteFault : List ℕ → ℕ → ℕ
-cassetteFault before c = first (given (eqb c 0) 4) (given (not (mayRepeat c) && ltb 0 (count c before)) 5)
+cassetteFault before c = first (given (eqb c 0) 4) (given (not (isBlank c) && ltb 0 (count c before)) 5)

@@ -1,6 +1,6 @@
--- The cassettes present as a set of marks: words of 64 bits, bit c % 64 of word c / 64 for cassette c (document 01, "The store": "kept as a set of
--- marks, and n is the number of marks").
-use mathlib.Core.Bool.{false}
+-- The cassettes present that are no blanks, as a set of marks: words of 64 bits, bit c % 64 of word c / 64 for cassette c (document 01, "The store":
+-- "kept as a set of marks"; request 5/13: "n is the marks of the others plus the count of blanks").
+use mathlib.Core.Bool.{false, cond}
 use mathlib.Core.List.{List, [], _∷_}
 use mathlib.Core.Path.{_≡_}
 use Prim.Native.Nat.{ℕ, _+_, _/_, _%_, _^_, _≤_, _<_}
@@ -8,7 +8,7 @@ use lib.ListN.{getD, set, replicate}
 use lib.Bits.{bitOr}
 use lib.Count.{ones}
 use Rattle.stacks.specs.Count.{count}
-use Rattle.marks.specs.Cassettes.{numbers, mayRepeat}
+use Rattle.marks.specs.Cassettes.{numbers, isBlank}
 
 -- how many words hold a mark for every number
 abbrev pub markWords : ℕ
@@ -31,13 +31,23 @@ unfolding withMark
 withMarks w [] = w
 withMarks w (c ∷ l) = withMarks (withMark w c) l
 
--- "the number of marks": the ones of the words
+-- the cassettes of a list that are no blanks
+unfoldable pub others : List ℕ → List ℕ
+others [] = []
+others (c ∷ l) = cond (isBlank c) (others l) (c ∷ others l)
+
+-- the marks of a list of cassettes
+unfoldable pub marksOf : List ℕ → List ℕ
+unfolding withMarks others
+marksOf l = withMarks noMarks (others l)
+
+-- "the marks of the others": the ones of the words
 unfoldable pub markCount : List ℕ → ℕ
 markCount [] = 0
 markCount (w ∷ l) = ones w + markCount l
 
--- The words mark the cassettes of a list, in which no number stands twice but those that may.
+-- The words mark the cassettes of a list, in which no number but the blank stands twice.
 pub record Marked (words l : List ℕ) : Type 0 where
-  pub marks : words ≡ withMarks noMarks l
+  pub marks : words ≡ marksOf l
   pub below : (c : ℕ) → 0 < count c l → c < numbers
-  pub once : (c : ℕ) → mayRepeat c ≡ false → count c l ≤ 1
+  pub once : (c : ℕ) → isBlank c ≡ false → count c l ≤ 1

@@ -1,17 +1,16 @@
-// Cassette numbers and the set of marks (document 01, "The store": "kept as a set of marks, and n is the number of marks"), changed in
-// place.
-ghost use mathlib.Core.Bool.{not, _&&_};
+// Cassette numbers, which of them is the blank (request 5/13), and the set of marks of the others (document 01, "The store": "kept as a set of
+// marks"), changed in place.
 ghost use mathlib.Core.Path.{_≡_};
 ghost use Prim.Native.Nat.{_≤_, _<_};
 ghost use lib.Count.{ones};
 ghost use lib.Dec.{eqb};
 ghost use lib.ListN.{getD};
 ghost use Rattle.stacks.specs.Deciding.{Decides};
-ghost use Rattle.marks.specs.Cassettes.{mayRepeat};
+ghost use Rattle.marks.specs.Cassettes.{blank, isBlank};
 ghost use Rattle.marks.specs.Marking.{noMarks, marked, withMark, markCount};
 ghost use Rattle.marks.specs.Taking.{TakenIs};
 
-// "A cassette is a number 1 to 255. 0 marks an empty slot and nothing else."
+// A cassette, by its number. "0 marks an empty slot and nothing else."
 pub type Cassette = u8;
 
 // Words of marks: bit c % 64 of word c / 64 stands for cassette c.
@@ -23,11 +22,17 @@ pub fn none() -> Words
     [0u64; 4]
 }
 
-// Whether a number may stand more than once.
-fn may_repeat(c: Cassette) -> bool
-    ensures { λ r. ⌜ r ≡ mayRepeat c ⌝ }
+// "Cassette number 255 means a blank from now on" (request 5/13)
+pub fn blank() -> Cassette
+    ensures { λ r. ⌜ r ≡ blank ⌝ }
 {
-    false
+    255
+}
+
+pub fn is_blank(c: Cassette) -> bool
+    ensures { λ r. ⌜ r ≡ isBlank c ⌝ }
+{
+    c == blank()
 }
 
 // A word of marks.
@@ -56,16 +61,6 @@ fn mark(words: &mut Words, c: Cassette)
     words[i] = word(words, i) | (1u64 << k);
 }
 
-// Whether a cassette is marked and may not stand more than once.
-fn stands_already(words: &Words, c: Cassette) -> bool
-    ensures { λ r. ⌜ r ≡ (not (mayRepeat c) && eqb (marked (now (words .entry)) c) 1) ⌝ }
-{
-    if may_repeat(c) {
-        return false;
-    }
-    has(words, c)
-}
-
 // Whether one cassette more was added to others, or why not: 4, 5.
 pub enum Taken {
     Added,
@@ -73,14 +68,17 @@ pub enum Taken {
     Twice,
 }
 
-// Takes one cassette more: its fault, or the marks with it.
+// Takes one cassette more: its fault, or the marks with it. A blank has none.
 pub fn take(words: &mut Words, c: Cassette) -> Taken
     ensures { λ r. ⌜ TakenIs (now (words .entry)) c (now (words .exit)) r ⌝ }
 {
     if c == 0 {
         return Taken::NumberZero;
     }
-    if stands_already(words, c) {
+    if is_blank(c) {
+        return Taken::Added;
+    }
+    if has(words, c) {
         return Taken::Twice;
     }
     mark(words, c);

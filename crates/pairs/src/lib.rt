@@ -1,5 +1,7 @@
 // Two stores together (document 01, "Which comes first"): "For two stores: the start, the goal, 8, 9".
 
+use blanks::blanks_of;
+use marks::Words;
 use marks::count;
 use marks::same;
 use store::Fault;
@@ -40,6 +42,16 @@ fn same_frame(s: Store, t: Store) -> bool
     s.h == t.h
 }
 
+// Whether two stores hold the same cassettes, by the marks and the blanks of each.
+fn same_cassettes(a: Words, b: Words, j: usize, k: usize) -> bool
+    ensures { λ r. ⌜ Decides r ((a ≡ b) × (j ≡ k)) ⌝ }
+{
+    if j != k {
+        return false;
+    }
+    same(a, b)
+}
+
 fn refused(f: PairFault) -> Compared
     ensures { λ r. ⌜ r ≡ record { pair = Pair.Refused f; n = 0 } ⌝ }
 {
@@ -66,12 +78,15 @@ pub fn compare(start: Store, goal: Store) -> Compared
         return refused(PairFault::Frames);
     }
     let marks = first.marks;
-    let others = second.marks;
-    if !same(marks, others) {
+    let goal_marks = second.marks;
+    let blanks = blanks_of(start);
+    let goal_blanks = blanks_of(goal);
+    if !same_cassettes(marks, goal_marks, blanks, goal_blanks) {
         return refused(PairFault::Cassettes);
     }
+    let n = count(marks) + blanks;
     Compared {
         pair: Pair::Comparable,
-        n: count(marks),
+        n,
     }
 }

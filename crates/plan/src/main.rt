@@ -78,14 +78,14 @@ fn print_list(list: &[u8], count: usize) {
 // The list maker, lent as many bytes as any accepted store needs (`list-space-most`, crates/store/proofs/Space.antt), so that 10 is
 // never given.
 fn planned(start: Store, goal: Store, list: &mut [u8]) -> Planned
-    requires { ⌜ 18360 ≤ length (now list) ⌝ }
+    requires { ⌜ 18432 ≤ length (now list) ⌝ }
     ensures { λ r. ⌜ (r .answer ≡ PlanAnswer.LittleSpace → ⊥) ⌝ }
 {
     make_list(start, goal, list)
 }
 
 fn print_plan(start: Store, goal: Store) {
-    let mut list = [0u8; 18360];
+    let mut list = [0u8; 18432];
     let made = planned(start, goal, &mut list);
     let answer = made.answer;
     let number = plan_number(answer);

@@ -1,7 +1,8 @@
-// Plans cases of document 01, "Filled stores to try", that are not among the proved ones, and prints for each the number, the count of
-// lifts and whether a replay of the list ends at the goal. Held to the file stdout.
+// Plans cases of document 01, "Filled stores to try", that are not among the proved ones, and some with blanks, and prints for each the
+// number, the count of lifts and whether a replay of the list ends at the goal. Held to the file stdout.
 use check::same;
 use libc::STDOUT_FILENO;
+use marks::blank;
 use numbers::end_number;
 use pair_numbers::plan_number;
 use pair_numbers::reach_number;
@@ -160,12 +161,28 @@ fn show(what: &[u8], start: Store, goal: Store, list: &mut [u8]) {
     );
 }
 
-// m 16, h 16 with 255 cassettes, as full as a store gets: shaft by shaft, counted from a number on.
+// m 16, h 16 with 255 cassettes, each number once: shaft by shaft, counted from a number on.
 fn nearly_full(from: usize) -> Store {
     let mut s = empty(16, 16);
     let mut i: usize = 0;
     while i < 255 {
         s = with(s, i / 16, ((i + from % 255) % 255 + 1) as u8);
+        i += 1;
+    }
+    s
+}
+
+// Cassette 1, or a blank.
+fn one_or_blank(one: bool) -> u8 {
+    if one { 1 } else { blank() }
+}
+
+// m 16, h 16 with n cassettes, shaft by shaft: cassette 1 at place `at` of them, and blanks.
+fn blanks_but_one(n: usize, at: usize) -> Store {
+    let mut s = empty(16, 16);
+    let mut i: usize = 0;
+    while i < n {
+        s = with(s, i / 16, one_or_blank(i == at));
         i += 1;
     }
     s
@@ -216,12 +233,36 @@ fn full_cases(list: &mut [u8]) {
     );
 }
 
+// Cassette 1 among blanks: to one place and to another.
+fn blank_case(what: &[u8], n: usize, one: usize, other: usize, list: &mut [u8]) {
+    show(what, blanks_but_one(n, one), blanks_but_one(n, other), list);
+}
+
+fn full_of_blanks(list: &mut [u8]) {
+    blank_case(b"m 16, h 16, 256 blanks", 256, 256, 256, list);
+    blank_case(b"full, another blank's place", 256, 0, 16, list);
+    show(
+        b"one blank more",
+        blanks_but_one(240, 0),
+        blanks_but_one(241, 0),
+        list,
+    );
+}
+
+fn room_among_blanks(list: &mut [u8]) {
+    blank_case(b"e 1, above the rows that stay", 255, 15, 31, list);
+    blank_case(b"e 1, among the rows that stay", 255, 0, 16, list);
+    blank_case(b"e 16, from below to the top", 240, 0, 239, list);
+}
+
 fn main() {
     let mut enough = [0u8; 192];
     dealt_cases(&mut enough);
     let mut less = [0u8; 191];
     space_cases(&mut enough, &mut less);
     refused_cases(&mut enough);
-    let mut list = [0u8; 18360];
+    let mut list = [0u8; 18432];
     full_cases(&mut list);
+    full_of_blanks(&mut list);
+    room_among_blanks(&mut list);
 }

@@ -5,11 +5,11 @@ use Prim.Native.Nat.{ℕ, _≤_, _<_}
 use native.Mathlib.Omega.{arith}
 use lib.ListN.{length}
 use Rattle.stacks.specs.Count.{greatest}
-use Rattle.marks.specs.Cassettes.{numbers}
+use Rattle.lifts.specs.Lifting.{slotCount}
 use Rattle.store.specs.declared.Store.{Store}
 use Rattle.store.specs.Slots.{depth, deepest, cassetteCount, listSpace}
 use Rattle.depths.specs.Depths.{DepthsFit, spaceFor}
-use Rattle.store.proofs.Acceptance.{accepted-sound, accepted-few}
+use Rattle.store.proofs.Acceptance.{accepted-sound, accepted-most}
 use Rattle.reach.specs.Pairs.{Comparable}
 use Rattle.reach.specs.Rules.{Rule}
 use Rattle.reach.proofs.Reachability.{reachable-rule}
@@ -19,8 +19,8 @@ use Rattle.making.specs.Made.{MadeIs}
 use Rattle.plans.specs.Promises.{PlanSays, PlanLeaves, Untouched, RefusedPlan, PlanIs}
 
 -- stores that can be compared have few rows and few cassettes
-pub counted-few : (s t : Store) → Comparable s t → (0 < s .m) × DepthsFit (s .h) × (cassetteCount s < numbers)
-counted-few s t p = let a = accepted-sound s (p .start) in (a .some-shaft, a .shaped .rows, accepted-few s (p .start))
+pub counted-few : (s t : Store) → Comparable s t → (0 < s .m) × DepthsFit (s .h) × (cassetteCount s ≤ slotCount)
+counted-few s t p = let a = accepted-sound s (p .start) in (a .some-shaft, a .shaped .rows, accepted-most s (p .start))
 
 -- the list space as the code counts it
 pub space-counted : (s : Store) (n k : ℕ) → n ≡ cassetteCount s → k ≡ spaceFor (greatest (s .m) (depth s)) n → k ≡ listSpace s

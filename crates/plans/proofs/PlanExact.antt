@@ -73,7 +73,7 @@ module _ (s t : Store) (came : List ℕ) where
       )
 
     -- 10 is never given where the greatest list space is lent
-    pub space-suffices : 18360 ≤ length came → r .answer ≡ PlanAnswer.LittleSpace → ⊥
+    pub space-suffices : 18432 ≤ length came → r .answer ≡ PlanAnswer.LittleSpace → ⊥
     space-suffices h e =
         let w = subst (PlanSays s t came) e (q .answer) in
         omega (arith, list-space-most s (w .0 .start), w .1)

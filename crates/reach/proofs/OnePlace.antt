@@ -1,5 +1,6 @@
--- "No cassette stands twice in a store" (document 01): an accepted store shows a number in one place at most.
+-- No cassette but the blank stands twice in a store (request 5/13): an accepted store shows any other number in one place at most.
 use borrow.Author.Tests.{eq-eqb}
+use mathlib.Core.Bool.{false}
 use mathlib.Core.Path.{_≡_, refl, sym, ap, _∙_}
 use Prim.Native.Nat.{ℕ, zero, suc, _/_, _%_, _≤_, _<_}
 use native.Mathlib.Decide.{ℕ-discrete, decLt}
@@ -8,7 +9,7 @@ use native.Mathlib.Omega.{arith}
 use lib.ListN.{getD}
 use Rattle.stacks.specs.Count.{one, count, sum, occurrences}
 use Rattle.stacks.proofs.Sums.{term-le-sum, sum-le-outside-two}
-use Rattle.marks.proofs.Takes.{none-repeats}
+use Rattle.marks.specs.Cassettes.{isBlank}
 use Rattle.lifts.specs.Lifting.{slotCount, shown}
 use Rattle.rows.specs.Rows.{rowsDown}
 use Rattle.store.specs.declared.Store.{Store}
@@ -19,14 +20,14 @@ use Rattle.store.proofs.Views.{holds-below}
 use Rattle.reach.proofs.Agree.{occurrences-agree}
 use Rattle.reach.proofs.Lasting.{row-counted}
 
-module _ (s : Store) (p : Accepted s) (c : ℕ) where
+module _ (s : Store) (p : Accepted s) (c : ℕ) (b : isBlank c ≡ false) where
   -- how often c stands in the rows of a shaft
   abbrev in-shaft : ℕ → ℕ
   in-shaft x = count c (stack s x)
 
   stands-once : sum (s .m) in-shaft ≤ 1
   unfolding occurrences
-  stands-once = omega (arith, occurrences-agree s c, accepted-sound s p .once c (none-repeats c))
+  stands-once = omega (arith, occurrences-agree s c, accepted-sound s p .once c b)
 
   -- two rows of a shaft that show c count twice
   rows-twice : (x n j k : ℕ) → j < k → k < n → slot s x (suc j) ≡ c → slot s x (suc k) ≡ c → 1 < count c (downward s x n)
@@ -68,7 +69,7 @@ module _ (s : Store) (p : Accepted s) (c : ℕ) where
       ]
 
   -- so the places where it stands are the same
-  pub one-place : (x j y k : ℕ) → x < s .m → y < s .m → j < height s x → k < height s y → slot s x (suc j) ≡ c → slot s y (suc k) ≡ c → (x ≡ y) × (j ≡ k)
+  one-place : (x j y k : ℕ) → x < s .m → y < s .m → j < height s x → k < height s y → slot s x (suc j) ≡ c → slot s y (suc k) ≡ c → (x ≡ y) × (j ≡ k)
   one-place x j y k h g i l e f =
       let u = one-shaft x j y k h g i l e f in
       (u, one-row x j k h i (rw u l) e (rw u f))

@@ -1,4 +1,4 @@
--- Two stores together: numbers 8 and 9 (document 01, "Refused because of the input"). 0 is no fault.
+-- Two stores together: number 8 (document 01, "Refused because of the input") and number 9 (request 5/13). 0 is no fault.
 use mathlib.Core.Bool.{Bool, true, not, _&&_}
 use mathlib.Core.List.{List, [], _∷_}
 use mathlib.Core.Path.{_≡_}
@@ -22,7 +22,7 @@ unfoldable pub agreeOn : List ℕ → List ℕ → List ℕ → Bool
 agreeOn [] k l = true
 agreeOn (c ∷ r) k l = eqb (count c k) (count c l) && agreeOn r k l
 
--- "9. Start and goal differ in their set of cassettes.": in how often each number stands
+-- "number 9 compares how often each number stands" (request 5/13)
 unfoldable pub cassettesFault : Store → Store → ℕ
 unfolding agreeOn
 cassettesFault s t =

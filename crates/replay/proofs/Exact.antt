@@ -1,6 +1,7 @@
--- One answer alone keeps the promise of a replay: two that do are the same (document 01, "Agreement on the contracts"). No cassette stands twice, so what was
--- counted for it stands beside the one slot that shows it.
+-- Two answers that keep the promise of a replay are the same (document 01, "Agreement on the contracts"), but for how the carries of blanks, which are counted
+-- together (request 5/13), are spread over the slots that show one. Any other cassette stands once, and what was counted for it stands beside its slot.
 use borrow.Author.Tests.{eq-eqb, ne-eqb}
+use mathlib.Core.Bool.{false}
 use mathlib.Core.List.{List}
 use mathlib.Core.Path.{_≡_, refl, sym, ap, _∙_}
 use Prim.Native.Nat.{ℕ, _<_}
@@ -11,7 +12,7 @@ use lib.ListN.{length, getD}
 use lib.Seq.{ext-getD}
 use Rattle.stacks.specs.Count.{count}
 use Rattle.stacks.proofs.Sums.{sum-alone}
-use Rattle.marks.specs.Cassettes.{given}
+use Rattle.marks.specs.Cassettes.{isBlank, given}
 use Rattle.lifts.specs.Lifting.{slotCount}
 use Rattle.store.specs.declared.Store.{Store}
 use Rattle.store.specs.Accept.{storeFault, Accepted}
@@ -41,9 +42,9 @@ module _ (s : Store) (bs carries : List ℕ) (o : (c : ℕ) → carriesOf c (rep
   none-beside : (i : ℕ) → i < slotCount → timesCarried (replay s bs) (getD (replay s bs .reached .slots) i 0) ≡ 0 → getD carries i 0 ≡ 0
   none-beside i h z = omega (arith, count-beside (replay s bs .reached .slots) carries i h, o (getD (replay s bs .reached .slots) i 0))
 
-  beside : (i : ℕ) → i < slotCount → getD carries i 0 ≡ timesCarried (replay s bs) (getD (replay s bs .reached .slots) i 0)
+  beside : (i : ℕ) → i < slotCount → isBlank (getD (replay s bs .reached .slots) i 0) ≡ false → getD carries i 0 ≡ timesCarried (replay s bs) (getD (replay s bs .reached .slots) i 0)
   unfolding count
-  beside i h =
+  beside i h b =
       let slots = replay s bs .reached .slots in
       let c = getD slots i 0 in
       elim (ℕ-discrete (storeFault s) 0) [
@@ -53,36 +54,51 @@ module _ (s : Store) (bs carries : List ℕ) (o : (c : ℕ) → carriesOf c (rep
               | yes z ↦
                   (let n : timesCarried (replay s bs) c ≡ 0 = ap (timesCarried (replay s bs)) z ∙ ap (λ (o : Outcome). timesCarried o 0) (replay-accepted s bs e) ∙ never-zero s bs e in
                   none-beside i h n ∙ sym n)
-              | no n ↦ sym (alone slots carries i h (λ j l f. one-slot (replay s bs .reached) p c n j i l h f refl)) ∙ o c
+              | no n ↦ sym (alone slots carries i h (λ j l f. one-slot (replay s bs .reached) p c b n j i l h f refl)) ∙ o c
             ])
         | no n ↦
             (let z : timesCarried (replay s bs) c ≡ 0 = ap (λ (o : Outcome). timesCarried o c) (replay-refuses s bs (storeFault s) refl n) in
             none-beside i h z ∙ sym z)
       ]
 
--- the counts of a replay are one for each slot, as their type says
-pub replay-exact : (s : Store) (bs : List ℕ) {x y : Replayed} → length (x .carries) ≡ slotCount → length (y .carries) ≡ slotCount → ReplayIs (replay s bs) x
-    → ReplayIs (replay s bs) y → x ≡ y
-replay-exact s bs {x} {y} k l p q =
-    let u = beside s bs (x .carries) (λ c. rw (p .store) at (p .carries c)) in
-    let v = beside s bs (y .carries) (λ c. rw (q .store) at (q .carries c)) in
-    let carries : x .carries ≡ y .carries = ext-getD 0 (x .carries) (y .carries) (k ∙ sym l) λ i h. u i (omega (arith, k)) ∙ sym (v i (omega (arith, k))) in
-    λ i. record {
-      store = (p .store ∙ sym (q .store)) i;
-      carries = carries i;
-      count = (p .count ∙ sym (q .count)) i;
-      end = q .end .alone (x .end) (p .end .has) i;
-    }
+-- the same count for every number, and beside every slot but those that show a blank
+pub record SameCarries (slots k l : List ℕ) : Type 0 where
+  pub numbers : (c : ℕ) → carriesOf c slots k ≡ carriesOf c slots l
+  pub beside : (i : ℕ) → i < slotCount → isBlank (getD slots i 0) ≡ false → getD k i 0 ≡ getD l i 0
+
+same-carries : (s : Store) (bs : List ℕ) {t : Store} (k l : List ℕ) → t ≡ replay s bs .reached → ((c : ℕ) → carriesOf c (t .slots) k ≡ timesCarried (replay s bs) c)
+    → ((c : ℕ) → carriesOf c (t .slots) l ≡ timesCarried (replay s bs) c) → SameCarries (t .slots) k l
+same-carries s bs k l e p q = record {
+  numbers = λ c. p c ∙ sym (q c);
+  beside = rw e λ i h b. beside s bs k (λ c. rw e at (p c)) i h b ∙ sym (beside s bs l (λ c. rw e at (q c)) i h b);
+}
+
+pub record SameReplay (x y : Replayed) : Type 0 where
+  pub store : x .store ≡ y .store
+  pub count : x .count ≡ y .count
+  pub end : x .end ≡ y .end
+  pub carries : SameCarries (x .store .slots) (x .carries) (y .carries)
+
+pub replay-exact : (s : Store) (bs : List ℕ) {x y : Replayed} → ReplayIs (replay s bs) x → ReplayIs (replay s bs) y → SameReplay x y
+replay-exact s bs {x} {y} p q = record {
+  store = p .store ∙ sym (q .store);
+  count = p .count ∙ sym (q .count);
+  end = q .end .alone (x .end) (p .end .has);
+  carries = same-carries s bs (x .carries) (y .carries) (p .store) (p .carries) (λ c. ap (λ (t : Store). carriesOf c (t .slots) (y .carries)) (p .store ∙ sym (q .store)) ∙ q .carries c);
+}
 
 -- so it is with lifts made in lent arrays, however many counts are lent
+pub record SamePlay (t u : Store) (k l : List ℕ) (x y : Played) : Type 0 where
+  pub store : t ≡ u
+  pub played : x ≡ y
+  pub counted : length k ≡ slotCount → SameCarries (t .slots) k l
+  pub uncounted : (length k ≡ slotCount → ⊥) → k ≡ l
+
 pub play-exact : (s : Store) (bs : List ℕ) → Accepted s → {t u : Store} {k l : List ℕ} {x y : Played} → length k ≡ length l → PlayIs (replayFrom s bs) t k x
-    → PlayIs (replayFrom s bs) u l y → (t ≡ u) × (k ≡ l) × (x ≡ y)
-play-exact s bs e {t} {u} {k} {l} {x} {y} n p q =
-    (p .store ∙ sym (q .store), counts, λ i. record { count = (p .count ∙ sym (q .count)) i; end = q .end .alone (x .end) (p .end .has) i })
-  where
-    counts : k ≡ l
-    counts =
-        elim (ℕ-discrete (length k) slotCount) [
-          | yes f ↦ ap (λ (r : Replayed). r .carries) (replay-exact s bs f (sym n ∙ f) (replay-played s t bs k x e f p) (replay-played s u bs l y e (sym n ∙ f) q))
-          | no m ↦ ext-getD 0 k l n λ i h. p .uncounted m i ∙ sym (q .uncounted (λ f. m (n ∙ f)) i)
-        ]
+    → PlayIs (replayFrom s bs) u l y → SamePlay t u k l x y
+play-exact s bs e {t} {u} {k} {l} {x} {y} n p q = record {
+  store = p .store ∙ sym (q .store);
+  played = λ i. record { count = (p .count ∙ sym (q .count)) i; end = q .end .alone (x .end) (p .end .has) i };
+  counted = λ f. replay-exact s bs (replay-played s t bs k x e f p) (replay-played s u bs l y e (sym n ∙ f) q) .carries;
+  uncounted = λ m. ext-getD 0 k l n λ i h. p .uncounted m i ∙ sym (q .uncounted (λ f. m (n ∙ f)) i);
+}

@@ -8,7 +8,7 @@ use native.Mathlib.Omega.{arith}
 use lib.Dec.{eqb}
 use lib.ListN.{length}
 use Rattle.stacks.specs.Count.{one, count, sum}
-use Rattle.stacks.proofs.Distinct.{counts-more}
+use Rattle.stacks.proofs.Counts.{counts-more}
 use Rattle.stacks.proofs.Sums.{sum-equal, sum-same}
 use Rattle.marks.specs.Cassettes.{numbers}
 use Rattle.lifts.specs.Bytes.{left, entered}

@@ -9,6 +9,7 @@ use lib.Dec.{eqb}
 use lib.ListN.{length, length-append}
 use Rattle.stacks.specs.Run.{Stacks}
 use Rattle.stacks.specs.Count.{sum, one, count, occurrences, total}
+use Rattle.stacks.proofs.Sums.{sum-add, sum-alone}
 
 -- The count of two lists joined.
 pub count-append : (c : ℕ) (l r : List ℕ) → count c (l ++ r) ≡ count c l + count c r
@@ -52,6 +53,17 @@ same-length (x ∷ l) r h =
     let s = standing x r (omega (arith, h x, count-own x l)) in
     let rest : (c : ℕ) → count c l ≡ count c (s .above ++ s .under) = λ c. simp count-append (omega (arith, h c, simp count-append at (ap (count c) (s .split)))) in
     rw (s .split) (simp length-append (omega (arith, simp length-append at (same-length l (s .above ++ s .under) rest))))
+
+-- Every number of a list is below a bound.
+abbrev pub Below : ℕ → List ℕ → Type 0
+Below n l = (c : ℕ) → 0 < count c l → c < n
+
+-- A number more counts once among the numbers below n.
+pub counts-more : (n x : ℕ) (l : List ℕ) → x < n → sum n (λ c. count c (x ∷ l)) ≡ suc (sum n (λ c. count c l))
+unfolding count
+counts-more n x l h =
+    let once : sum n (λ c. one (eqb c x)) ≡ 1 = sum-alone n (λ c. one (eqb c x)) x h (λ c i d. ap one (ne-eqb c x d)) ∙ ap one (eq-eqb x x refl) in
+    omega (arith, sum-add n (λ c. one (eqb c x)) (λ c. count c l))
 
 -- What adds up over lists adds up over the shafts, joined one after the other.
 pub joined-adds : (f : List ℕ → ℕ) → f [] ≡ 0 → ((l r : List ℕ) → f (l ++ r) ≡ f l + f r) → (S : Stacks) (joined : ℕ → List ℕ) → joined 0 ≡ []

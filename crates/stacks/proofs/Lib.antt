@@ -1,7 +1,6 @@
 pub mod Bottoms
 pub mod Counts
 pub mod Deciding
-pub mod Distinct
 pub mod Floors
 pub mod Kept
 pub mod Placement

@@ -1,19 +1,24 @@
--- A store is accepted exactly if it is sound; it then has as many marks as cassettes, and at most 255 of them (request 3/13).
+-- A store is accepted exactly if it is sound; its cassettes are then counted by their marks and the blanks, and are at most as many as its slots
+-- (request 5/13).
 use mathlib.Core.Bool.{true, not}
 use mathlib.Core.Path.{_≡_, refl, ap, _∙_}
-use Prim.Native.Nat.{ℕ, suc, _-_, _≤_, _<_}
+use Prim.Native.Nat.{ℕ, suc, _+_, _-_, _≤_, _<_}
 use native.Mathlib.Omega.{arith}
-use Rattle.marks.specs.Cassettes.{numbers, given}
-use Rattle.marks.specs.Marking.{noMarks, withMarks, markCount, Marked}
+use Rattle.stacks.specs.Count.{sum, count}
+use Rattle.stacks.proofs.Sums.{sum-le, sum-same}
+use Rattle.marks.specs.Cassettes.{blank, given}
+use Rattle.marks.specs.Marking.{marksOf, markCount, Marked}
 use Rattle.marks.proofs.Faulted.{first-none, not-given}
-use Rattle.marks.proofs.Takes.{taken-cassette, marks-counted, marked-few}
+use Rattle.marks.proofs.Takes.{taken-cassette, marks-counted}
+use Rattle.lifts.specs.Lifting.{mostRows, slotCount}
 use Rattle.store.specs.declared.Store.{Store}
 use Rattle.store.specs.Slots.{depth, height, slot, cassettesBelow, cassettes, cassetteCount}
 use Rattle.store.specs.Accept.{inPlace, shaftsFault, storeFault, Accepted}
 use Rattle.rows.specs.Rows.{rowsFault}
 use Rattle.store.specs.Sound.{Shaped, Sound}
+use Rattle.store.proofs.Counted.{heights-counted}
 use Rattle.store.proofs.InPlace.{shafts-in-range, rows-in-range, in-place-shaped, shaped-in-place}
-use Rattle.store.proofs.Once.{walked-once, once-walks, none-stands, cassettes-below}
+use Rattle.store.proofs.Once.{walked-once, once-walks, cassettes-below}
 use Rattle.store.proofs.Verdicts.{by-shafts}
 use Rattle.store.proofs.Views.{holds-below}
 use Rattle.store.proofs.Walk.{shaft-none, not-too-high}
@@ -49,19 +54,21 @@ module _ (s : Store) where
         let e : suc (y - 1) ≡ y = omega arith in
         accepted-sound .no-gap x (y - 1) (omega (arith, e)) (ap (slot s x) e ∙ z)
 
-    -- the marks of its cassettes are as many as its cassettes
-    pub accepted-marked : Marked (withMarks noMarks (cassettes s)) (cassettes s)
+    pub accepted-marked : Marked (marksOf (cassettes s)) (cassettes s)
     unfolding cassettes
     accepted-marked = record { marks = refl; below = cassettes-below s (accepted-shaped .numbered); once = accepted-sound .once }
 
-    pub accepted-count : markCount (withMarks noMarks (cassettes s)) ≡ cassetteCount s
+    -- "n is the marks of the others plus the count of blanks"
+    pub accepted-count : markCount (marksOf (cassettes s)) + count blank (cassettes s) ≡ cassetteCount s
     unfolding cassetteCount
     accepted-count = marks-counted _ (cassettes s) accepted-marked
 
-    -- and its cassettes are fewer than the numbers that a slot may show: at most 255
-    pub accepted-few : cassetteCount s < numbers
-    unfolding cassetteCount
-    accepted-few = marked-few _ (cassettes s) accepted-marked (none-stands s 0 (accepted-sound .no-gap))
+    -- at most as many cassettes as slots, and so at most 256: "A store may now hold 256 cassettes"
+    pub accepted-few : cassetteCount s ≤ sum (s .m) (depth s)
+    accepted-few = omega (arith, heights-counted s, sum-le (s .m) (height s) (depth s) (λ x h. accepted-shaped .heights x))
+
+    pub accepted-most : cassetteCount s ≤ slotCount
+    accepted-most = omega (arith, accepted-few, sum-le (s .m) (depth s) (λ x. mostRows) (λ x h. accepted-shaped .rows x), sum-same (s .m) mostRows, accepted-shaped .shafts)
 
   pub sound-accepted : Sound s → Accepted s
   unfolding cassettes

@@ -3,7 +3,7 @@ use mathlib.Core.List.{List}
 use mathlib.Core.Path.{_≡_, refl, sym, ap, _∙_}
 use Prim.Native.Nat.{ℕ, zero, suc, _≤_, _<_}
 use native.Mathlib.Omega.{arith}
-use Rattle.marks.specs.Marking.{noMarks, withMarks}
+use Rattle.marks.specs.Marking.{noMarks, marksOf}
 use Rattle.store.specs.declared.Checked.{Checked}
 use Rattle.store.specs.declared.Fault.{Fault}
 use Rattle.store.specs.declared.Fault.the-variants.{OutOfPlace, TooHigh, NumberZero, Twice}
@@ -34,11 +34,11 @@ refused-is f k l r p e = record {
   marks = p .1 ∙ sym (no-marks k l (λ z. fault-one f (sym e ∙ z)));
 }
 
-pub accepted-is : (k : ℕ) (l : List ℕ) (m : List ℕ) → k ≡ 0 → m ≡ withMarks noMarks l → CheckIs k l (record { verdict = Accepted; marks = m })
+pub accepted-is : (k : ℕ) (l : List ℕ) (m : List ℕ) → k ≡ 0 → m ≡ marksOf l → CheckIs k l (record { verdict = Accepted; marks = m })
 accepted-is k l m e w = record { verdict = only-verdict (sym e); marks = w ∙ ap (λ (n : ℕ). marksUnless n l) (sym e) }
 
 -- a verdict that accepts has no fault, and its marks are those of the list
-pub accepted-none : (k : ℕ) (l : List ℕ) (r : Checked) → CheckIs k l r → r .verdict ≡ Accepted → (k ≡ 0) × (r .marks ≡ withMarks noMarks l)
+pub accepted-none : (k : ℕ) (l : List ℕ) (r : Checked) → CheckIs k l r → r .verdict ≡ Accepted → (k ≡ 0) × (r .marks ≡ marksOf l)
 accepted-none k l r p e =
     let z : k ≡ 0 = sym (p .verdict .has) ∙ ap verdictNumber e in
     (z, p .marks ∙ ap (λ (n : ℕ). marksUnless n l) z)

@@ -1,4 +1,4 @@
--- A walk without a fault met no number twice that may not stand twice, and its cassettes are what slots may show; and where no such number stands
+-- A walk without a fault met no number twice but the blank, and its cassettes are what slots may show; and where no number but the blank stands
 -- twice, none is 0 and no height passes the depth, the walk meets no fault.
 use borrow.Author.Tests.{eq-eqb}
 use mathlib.Core.Bool.{false}
@@ -9,10 +9,9 @@ use native.Mathlib.Decide.{decLt}
 use native.Mathlib.Omega.{arith}
 use lib.ListN.{getD}
 use Rattle.stacks.specs.Count.{count, one}
-use Rattle.stacks.proofs.Counts.{count-append, count-last}
-use Rattle.stacks.proofs.Distinct.{Below}
+use Rattle.stacks.proofs.Counts.{count-append, count-last, Below}
 use Rattle.stacks.proofs.Sums.{sum-none}
-use Rattle.marks.specs.Cassettes.{numbers, mayRepeat, cassetteFault}
+use Rattle.marks.specs.Cassettes.{numbers, isBlank, cassetteFault}
 use Rattle.marks.proofs.Faulted.{first-none}
 use Rattle.marks.proofs.Takes.{taken-cassette, cassette-taken, Once, once-more}
 use Rattle.lifts.specs.Lifting.{shown}
@@ -25,14 +24,14 @@ use Rattle.rows.proofs.Walk.{row-after, row-passed}
 use Rattle.store.proofs.Counted.{cassettes-added}
 use Rattle.store.proofs.Walk.{shaft-passed, by-rows, not-too-high}
 
-once-last : (l : List ℕ) (x : ℕ) → Once (l ++ (x ∷ [])) → mayRepeat x ≡ false → count x l ≡ 0
+once-last : (l : List ℕ) (x : ℕ) → Once (l ++ (x ∷ [])) → isBlank x ≡ false → count x l ≡ 0
 once-last l x p r = omega (arith, p x r, count-last x l x, ap one (eq-eqb x x refl))
 
 once-front : (l r : List ℕ) → Once (l ++ r) → Once l
 once-front l r p c m = omega (arith, p c m, count-append c l r)
 
 module _ (s : Store) where
-  -- rows without a fault add no number twice to what stood before
+  -- rows without a fault add no number twice to what stood before, but for the blank
   rows-once : (before : List ℕ) (x k : ℕ) → rowsFault before (s .slots) x k ≡ 0 → Once before → Once (before ++ upward s x k)
   unfolding rowsFault rowsUp
   rows-once before x zero e p = rw (append-nil before) p
@@ -41,7 +40,7 @@ module _ (s : Store) where
       rw (← row-after before (s .slots) x k)
       (once-more (before ++ upward s x k) (slot s x (suc k)) (rows-once before x k (f .0) p) (taken-cassette _ _ (f .1) .1))
 
-  -- a walk without a fault met no number twice
+  -- a walk without a fault met no number twice but the blank
   pub walked-once : (x : ℕ) → shaftsFault s x ≡ 0 → Once (cassettesBelow s x)
   unfolding shaftsFault cassettesBelow count
   walked-once zero e c r = omega arith
@@ -49,7 +48,7 @@ module _ (s : Store) where
       let f = first-none (shaftsFault s x) (shaftFault s x) e in
       rows-once (cassettesBelow s x) x (height s x) (not-too-high s x (f .1) .1) (walked-once x (f .0)) c r
 
-  -- where no cassette is 0 and none stands twice, no row has a fault
+  -- where no cassette is 0 and none but the blank stands twice, no row has a fault
   rows-pass : (before : List ℕ) (x k : ℕ) → ((j : ℕ) → j < k → slot s x (suc j) ≡ 0 → ⊥) → Once (before ++ upward s x k) → rowsFault before (s .slots) x k ≡ 0
   unfolding rowsFault
   rows-pass before x zero n p = refl

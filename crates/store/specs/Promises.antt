@@ -2,7 +2,7 @@
 use mathlib.Core.List.{List}
 use mathlib.Core.Path.{_≡_}
 use Prim.Native.Nat.{ℕ, zero, suc}
-use Rattle.marks.specs.Marking.{noMarks, withMarks}
+use Rattle.marks.specs.Marking.{noMarks, marksOf}
 use Rattle.lifts.specs.declared.Carried.{Carried}
 use Rattle.lifts.specs.Numbers.{Only, judgedNumber}
 use Rattle.store.specs.declared.Store.{Store}
@@ -15,7 +15,7 @@ use Rattle.store.specs.Slots.{height, slot, topOf}
 
 -- the marks of a list of cassettes, none where there is a fault
 abbrev pub marksUnless : ℕ → List ℕ → List ℕ
-marksUnless zero l = withMarks noMarks l
+marksUnless zero l = marksOf l
 marksUnless (suc k) l = noMarks
 
 -- A check that looked for the fault f among the cassettes l gave the verdict with its number, and marks for them.

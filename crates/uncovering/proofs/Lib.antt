@@ -1,7 +1,7 @@
 pub mod Absent
-pub mod Answers
 pub mod Cleared
 pub mod Covered
 pub mod Exact
+pub mod Nearest
 pub mod Rule
 pub mod TopRow

@@ -1,51 +1,48 @@
--- The rule by which an order is answered: a cassette in row y of a shaft of depth d can be uncovered exactly if d − e ≤ y, and the fewest lifts that do are as many
--- as stand on it.
+-- The rule by which an order is answered (request 5/13): a number can be uncovered exactly if a place that shows it is no lower than row d − e of its shaft of
+-- depth d, and the fewest lifts that do are as many as stand on the nearest such place.
 use mathlib.Core.List.{List}
-use mathlib.Core.Logic.{_↔_}
-use mathlib.Core.Path.{_≡_, ap}
-use Prim.Native.Nat.{ℕ, zero, suc, _+_, _-_, _≤_, _<_}
-use native.Mathlib.Decide.{decLe}
+use mathlib.Core.Path.{_≡_}
+use Prim.Native.Nat.{ℕ, suc, _≤_, _<_}
 use native.Mathlib.Omega.{arith}
 use lib.ListN.{length}
 use Rattle.store.specs.declared.Store.{Store}
-use Rattle.store.specs.Slots.{depth, height, slot, emptyCount}
-use Rattle.store.specs.Accept.{Accepted}
-use Rattle.store.proofs.Acceptance.{accepted-shaped}
-use Rattle.reach.proofs.OnePlace.{one-place}
+use Rattle.store.specs.Slots.{height, slot}
+use Rattle.store.specs.Sound.{Shaped}
+use Rattle.uncovering.specs.declared.Uncovering.{Uncovering}
+use Rattle.uncovering.specs.declared.Uncovering.the-variants.{After, Absent, Buried}
+use Rattle.uncovering.specs.Nearest.{Place, HighEnough, Nearest, NearestIs}
+use Rattle.uncovering.specs.Promises.{UncoveringIs}
 use Rattle.uncovering.specs.Uncovering.{Uncovers, Fewest}
 use Rattle.uncovering.proofs.Cleared.{cleared}
-use Rattle.uncovering.proofs.Covered.{Under, none-sooner}
+use Rattle.uncovering.proofs.Covered.{none-sooner}
 
--- some list uncovers c
-pub record Uncoverable (s : Store) (c : ℕ) : Type 0 where
-  pub list : List ℕ
-  pub uncovers : Uncovers s c list
+module _ (s : Store) (p : Shaped s) (c : ℕ) where
+  -- a place of the store
+  abbrev Somewhere : Type 0
+  Somewhere = Place (λ x. x < s .m) s c
 
-module _ (s : Store) (p : Accepted s) (c x k : ℕ) (h : x < s .m) (i : k < height s x) (e : slot s x (suc k) ≡ c) where
-  -- c stands nowhere else: where it is too low, it is under as many as one likes, and else under what stands on it
-  under : (n : ℕ) → (depth s x ≤ suc k + emptyCount s → n + suc k ≤ height s x) → Under s c n
-  under n f y zero g l m a d = absurd (omega arith)
-  under n f y (suc j) g l m a d =
-      let u = one-place s p c x k y j h g i m e a in
-      omega (arith, u .1, ap (depth s) (u .0), ap (height s) (u .0), f (omega (arith, u .1, ap (depth s) (u .0))))
+  abbrev place : (x y : ℕ) → x < s .m → 0 < y → y ≤ height s x → slot s x y ≡ c → Somewhere
+  place x y h i j e = record { shaft = x; row = y; picked = h; from-one = i; held = j; shows = e }
 
-  pub fewest-above : depth s x - emptyCount s ≤ suc k → Fewest s c (height s x - suc k)
-  fewest-above d =
-      let w = cleared (height s x - suc k) s c x (suc k) (accepted-shaped s p) h (omega arith) (omega arith) e (omega arith) in
+  pub fewest : {k : ℕ} → Nearest (λ x. x < s .m) s c k → Fewest s c k
+  fewest {k} n =
+      let w = n .place in
+      let l = cleared k s c (w .shaft) (w .row) p (w .picked) (w .from-one) (n .above) (w .shows) (n .high) in
       record {
-        list = w .list;
-        uncovers = w .uncovers;
-        count = w .count;
-        least = λ other u. omega (arith, w .count, none-sooner (accepted-shaped s p) (u .leads) (u .uncovered) (height s x - suc k) (under (height s x - suc k) (λ g. omega arith)));
+        list = l .list;
+        uncovers = l .uncovers;
+        count = l .count;
+        least = λ other u. none-sooner p (u .leads) (u .uncovered) k (λ x y h i j e d. n .least (place x y h i j e) d);
       }
 
-  pub never-uncovered : (depth s x - emptyCount s ≤ suc k → ⊥) → (list : List ℕ) → Uncovers s c list → ⊥
+  pub never-uncovered : ((w : Somewhere) → HighEnough w → ⊥) → (list : List ℕ) → Uncovers s c list → ⊥
   never-uncovered n list u =
-      omega (arith, none-sooner (accepted-shaped s p) (u .leads) (u .uncovered) (suc (length list)) (under (suc (length list)) (λ g. absurd (n (omega arith)))))
+      omega (arith, none-sooner p (u .leads) (u .uncovered) (suc (length list)) (λ x y h i j e d. absurd (n (place x y h i j e) d)))
 
-  -- "can be uncovered exactly if"
-  pub uncovered-exactly : Uncoverable s c ↔ (depth s x - emptyCount s ≤ suc k)
-  uncovered-exactly = (
-    λ u. elim (decLe (depth s x - emptyCount s) (suc k)) [ yes d ↦ d | no n ↦ absurd (never-uncovered n (u .list) (u .uncovers)) ],
-    λ d. let f = fewest-above d in record { list = f .list; uncovers = f .uncovers },
-  )
+  -- what an answer says of the places of the store, it says of the lists
+  pub by-places : (a : Uncovering) → NearestIs (λ x. x < s .m) s c a → UncoveringIs s c a
+  by-places (After k) n = fewest n
+  by-places Absent n = λ w. n (place (w .shaft) (w .row) (w .below) (w .from-one) (w .held) (w .shows))
+  by-places Buried n =
+      let w = n .0 in
+      (record { shaft = w .shaft; row = w .row; below = w .picked; from-one = w .from-one; held = w .held; shows = w .shows }, never-uncovered (n .1))

@@ -1,3 +1,4 @@
+pub mod Nearest
 pub mod Numbers
 pub mod Promises
 pub mod Uncovering

@@ -7,9 +7,10 @@ use lifts::height_at;
 use lifts::slot_at;
 use rules::floor_rows;
 ghost use mathlib.Core.Path.{_≡_};
-ghost use Prim.Native.Nat.{_≤_, _<_};
+ghost use Prim.Native.Nat.{_≤_, _<_, min};
 ghost use Rattle.lifts.specs.Lifting.{mostShafts, mostRows};
 ghost use Rattle.store.specs.Slots.{held};
+ghost use Rattle.uncovering.specs.Nearest.{NearestIs, nearerOf};
 ghost use Rattle.uncovering.specs.Numbers.{uncoveringNumber, uncoveringLifts};
 ghost use Rattle.uncovering.specs.Promises.{Ready, UncoveringIs, TopRowIs};
 
@@ -57,7 +58,58 @@ fn top_row(slots: &Slots, x: usize, rows: u8, number: u16) -> u8
     0
 }
 
-// The fewest lifts that uncover a cassette, by its number: from the highest row that shows it in the first shaft that does.
+// The answer by what one shaft shows: from the highest row that shows the number, under which every other is deeper.
+fn in_shaft(
+    m: u8,
+    h: u8,
+    e: usize,
+    heights: &Heights,
+    slots: &Slots,
+    x: usize,
+    number: u16,
+) -> Uncovering
+    requires { ⌜ Ready (held m h (now heights) (now slots)) e ⌝ }
+    requires { ⌜ x < m ⌝ }
+    ensures { λ r. ⌜ NearestIs (λ y. y ≡ x) (held m h (now (heights .entry)) (now (slots .entry))) number r ⌝ }
+{
+    let rows = height_at(heights, x);
+    let row = top_row(slots, x, rows, number);
+    if row == 0 {
+        return Uncovering::Absent;
+    }
+    if (row as usize) < floor_rows(depth_of(h, x), e) {
+        return Uncovering::Buried;
+    }
+    Uncovering::After(rows - row)
+}
+
+// The fewer of two counts.
+fn fewer(j: u8, k: u8) -> u8
+    ensures { λ r. ⌜ r ≡ min j k ⌝ }
+{
+    if j < k { j } else { k }
+}
+
+// The nearer of two answers.
+fn nearer(a: Uncovering, b: Uncovering) -> Uncovering
+    ensures { λ r. ⌜ r ≡ nearerOf a b ⌝ }
+{
+    match a {
+        Uncovering::Absent => b,
+        Uncovering::Buried => match b {
+            Uncovering::Absent => Uncovering::Buried,
+            Uncovering::Buried => Uncovering::Buried,
+            Uncovering::After(k) => Uncovering::After(k),
+        },
+        Uncovering::After(j) => match b {
+            Uncovering::Absent => Uncovering::After(j),
+            Uncovering::Buried => Uncovering::After(j),
+            Uncovering::After(k) => Uncovering::After(fewer(j, k)),
+        },
+    }
+}
+
+// The fewest lifts that uncover a cassette, by its number: the nearest answer of all shafts.
 pub fn fewest_lifts<'a>(
     m: u8,
     h: u8,
@@ -70,17 +122,11 @@ pub fn fewest_lifts<'a>(
     ensures { λ r. ⌜ UncoveringIs (held m h (now (heights .entry)) (now (slots .entry))) number r ⌝ }
 {
     let shafts = m as usize;
+    let mut best = Uncovering::Absent;
     let mut x: usize = 0;
     while x < shafts {
-        let rows = height_at(heights, x);
-        let row = top_row(slots, x, rows, number);
-        if row != 0 {
-            if (row as usize) < floor_rows(depth_of(h, x), e) {
-                return Uncovering::Buried;
-            }
-            return Uncovering::After(rows - row);
-        }
+        best = nearer(best, in_shaft(m, h, e, heights, slots, x, number));
         x += 1;
     }
-    Uncovering::Absent
+    best
 }

@@ -1,6 +1,6 @@
 //! Stores as packed bits (document 01, "The image").
 
-use crate::store::Store;
+use crate::store::{BLANK, Store};
 
 /// Fields read from bytes, most significant bit first.
 struct Fields<'a> {
@@ -60,7 +60,8 @@ fn read_cassette(fields: &mut Fields, seen: &mut [bool; 256]) -> Result<u8, u8> 
     if cassette == 0 {
         return Err(4);
     }
-    if std::mem::replace(&mut seen[usize::from(cassette)], true) {
+    let stood = std::mem::replace(&mut seen[usize::from(cassette)], true);
+    if stood && cassette != BLANK {
         return Err(5);
     }
     Ok(cassette)
@@ -131,14 +132,46 @@ mod tests {
 
     #[test]
     fn longest_image() {
-        let cassettes: Vec<u8> = (1..=255).collect();
-        let store = Store {
-            depth: 16,
-            shafts: cassettes.chunks(16).map(<[u8]>::to_vec).collect(),
-        };
-        let image = write(&store);
-        assert_eq!(image.len(), 267);
-        assert_eq!(read(&image), Ok(store));
+        let others = || 1..BLANK;
+        for (cassettes, length) in [
+            (others().chain([BLANK]).collect::<Vec<u8>>(), 267),
+            (others().chain([BLANK, BLANK]).collect(), 268),
+            (vec![BLANK; 255], 267),
+            (vec![BLANK; 256], 268),
+        ] {
+            let store = Store {
+                depth: 16,
+                shafts: cassettes.chunks(16).map(<[u8]>::to_vec).collect(),
+            };
+            let image = write(&store);
+            assert_eq!(image.len(), length);
+            assert_eq!(read(&image), Ok(store));
+        }
+    }
+
+    /// Every number a second time, beside it and with another between.
+    #[test]
+    fn only_the_blank_stands_twice() {
+        for number in 1..=BLANK {
+            let other = if number == 1 { 2 } else { 1 };
+            for shafts in [
+                vec![vec![number, number]],
+                vec![vec![number, other], vec![number]],
+            ] {
+                let store = Store { depth: 2, shafts };
+                let wanted = match number {
+                    BLANK => Ok(store.clone()),
+                    _ => Err(5),
+                };
+                assert_eq!(read(&write(&store)), wanted);
+            }
+        }
+    }
+
+    #[test]
+    fn a_cassette_twice_among_blanks() {
+        let shafts = vec![vec![BLANK, 7, BLANK], vec![BLANK, 7]];
+        assert_eq!(read(&write(&Store { depth: 3, shafts })), Err(5));
     }
 
     #[test]

@@ -96,6 +96,7 @@ pub fn legal_lifts(store: &Store) -> Vec<u8> {
 #[cfg(test)]
 mod tests {
     use super::*;
+    use crate::store::BLANK;
     use crate::{Random, text};
 
     fn store(text: &str) -> Store {
@@ -149,12 +150,28 @@ mod tests {
 
     #[test]
     fn a_stopped_lift_counts_nothing() {
-        let start = store("3x2: [1 2] [] [255]");
+        let start = store("3x2: [1 2] [] [b]");
         for (stop, number) in [(0x03, 11), (0x00, 11), (0x20, 13), (0x21, 13), (0x01, 14)] {
             let end = replay(&start, &[0x01, 0x21, stop, 0x10, 0x10]);
             assert_eq!((end.count, end.number), (2, number));
-            assert_eq!(carries(&end), [(2, 1), (255, 1)]);
+            assert_eq!(carries(&end), [(2, 1), (BLANK.into(), 1)]);
         }
+    }
+
+    /// Three blanks, of which one is carried twice, one once and one not at all.
+    #[test]
+    fn carries_of_blanks_are_counted_together() {
+        let end = replay(&store("3x2: [b b] [] [b 1]"), &[0x01, 0x10, 0x21, 0x21]);
+        assert_eq!(end.store, store("3x2: [b b] [1 b] []"));
+        assert_eq!(carries(&end), [(1, 1), (BLANK.into(), 3)]);
+    }
+
+    #[test]
+    fn any_blank_in_its_slot_is_the_goal() {
+        let (start, goal) = (store("3x1: [b] [b] []"), store("3x1: [] [b] [b]"));
+        assert!(leads(&start, &[0x02], &goal));
+        assert!(leads(&start, &[0x12, 0x01], &goal));
+        assert!(!leads(&start, &[0x12], &goal));
     }
 
     #[test]
@@ -162,7 +179,8 @@ mod tests {
         let mut random = Random::new(2);
         let mut lifts = 0;
         for _ in 0..1000 {
-            let start = random.store(4, 3, 6);
+            let blanks = random.from_to(0, 6);
+            let start = random.store_with_blanks(4, 3, 6, blanks);
             let mut any_lift = || {
                 let left = random.below(4);
                 lift_byte(left, (left + random.from_to(1, 3)) % 4)

@@ -1,7 +1,7 @@
 //! Random stores from a seed, the same on every machine.
 
 use crate::rule;
-use crate::store::{MOST_CASSETTE, Store};
+use crate::store::{BLANK, MOST_CASSETTE, Store};
 
 /// A splitmix64 generator.
 #[derive(Clone)]
@@ -56,25 +56,49 @@ impl Random {
         &items[self.below(items.len())]
     }
 
-    /// `count` different cassettes, in any order.
+    /// `count` different cassettes, in any order. One of them may be a blank.
     pub fn cassettes(&mut self, count: usize) -> Vec<u8> {
-        let mut all: Vec<u8> = (1..=MOST_CASSETTE as u8).collect();
+        assert!(count <= MOST_CASSETTE, "{count} different cassettes");
+        let mut all: Vec<u8> = (1..=BLANK).collect();
         self.shuffle(&mut all);
         all.truncate(count);
         all
     }
 
-    /// A store of `m` shafts of depth `h` with `n` cassettes.
+    /// `count` cassettes of which so many are blanks, and no other two are the same, in any order.
+    pub fn cassettes_with_blanks(&mut self, count: usize, blanks: usize) -> Vec<u8> {
+        let others = count - blanks;
+        assert!(others < MOST_CASSETTE, "{others} different cassettes");
+        let mut all: Vec<u8> = (1..BLANK).collect();
+        self.shuffle(&mut all);
+        all.truncate(others);
+        all.resize(count, BLANK);
+        self.shuffle(&mut all);
+        all
+    }
+
+    /// A store of `m` shafts of depth `h` with `n` different cassettes.
     pub fn store(&mut self, m: usize, h: usize, n: usize) -> Store {
         let cassettes = self.cassettes(n);
         self.stand(Store::empty(m, h), &cassettes)
     }
 
+    /// A store of `m` shafts of depth `h` with `n` cassettes of which so many are blanks.
+    pub fn store_with_blanks(&mut self, m: usize, h: usize, n: usize, blanks: usize) -> Store {
+        let cassettes = self.cassettes_with_blanks(n, blanks);
+        self.stand(Store::empty(m, h), &cassettes)
+    }
+
     /// A store of the same shape and cassettes, each anywhere.
     pub fn rearranged(&mut self, store: &Store) -> Store {
+        self.in_shape(store.m(), store.depth, store)
+    }
+
+    /// The cassettes of a store, each anywhere in `m` shafts of depth `h`.
+    pub fn in_shape(&mut self, m: usize, h: usize, store: &Store) -> Store {
         let mut cassettes = store.cassettes();
         self.shuffle(&mut cassettes);
-        self.stand(Store::empty(store.m(), store.depth), &cassettes)
+        self.stand(Store::empty(m, h), &cassettes)
     }
 
     /// A goal that can be reached from a store.
@@ -88,14 +112,14 @@ impl Random {
 
     /// A goal as close to a store as one that can't be reached may be, if there is one.
     ///
-    /// A reachable goal in which a cassette that is bound to its place has changed places with another.
+    /// A reachable goal in which a cassette that is bound to its place has changed places with one of another number.
     pub fn unreachable_goal(&mut self, store: &Store) -> Option<Store> {
         let mut goal = self.reachable_goal(store);
         let mut bound = bound_slots(&goal);
         let mut others = all_slots(&goal);
         self.shuffle(&mut bound);
         let &one = bound.first()?;
-        others.retain(|&slot| slot != one);
+        others.retain(|&slot| shown(&goal, slot) != shown(&goal, one));
         if others.is_empty() {
             return None;
         }
@@ -158,13 +182,17 @@ fn all_slots(store: &Store) -> Vec<Slot> {
         .collect()
 }
 
-/// The slots whose cassette no reachable goal has elsewhere: of fewer than three shafts, all.
+/// The slots whose number is bound to its place, or to its place in the reading: of fewer than three shafts, all.
 fn bound_slots(store: &Store) -> Vec<Slot> {
     let mut slots = all_slots(store);
     if store.m() >= 3 {
         slots.retain(|&(_, row)| row < store.floor());
     }
     slots
+}
+
+fn shown(store: &Store, (shaft, row): Slot) -> u8 {
+    store.shafts[shaft][row]
 }
 
 fn swap_slots(store: &mut Store, (a, i): Slot, (b, j): Slot) {
@@ -184,14 +212,24 @@ mod tests {
         assert_eq!(random.word(), 0x6E78_9E6A_A1B9_65F4);
     }
 
+    /// Cassettes for so many slots: different ones where there are enough, blanks but for a few, or blanks alone.
+    fn any_store(random: &mut Random, m: usize, h: usize, n: usize) -> Store {
+        match random.below(4) {
+            0 if n <= MOST_CASSETTE => random.store(m, h, n),
+            1 => random.store_with_blanks(m, h, n, n),
+            2 => random.store_with_blanks(m, h, n, n.saturating_sub(3)),
+            _ => random.store_with_blanks(m, h, n, n.div_ceil(2)),
+        }
+    }
+
     #[test]
     fn goals_are_what_they_are_called() {
         let mut random = Random::new(1);
-        let mut refused = 0;
-        for _ in 0..3000 {
+        let mut refused = [0; 4];
+        for _ in 0..6000 {
             let (m, h) = (random.from_to(1, 16), random.from_to(1, 16));
-            let n = random.from_to(0, (m * h).min(MOST_CASSETTE));
-            let store = random.store(m, h, n);
+            let n = random.from_to(0, m * h);
+            let store = any_store(&mut random, m, h, n);
             assert_eq!((store.m(), store.depth, store.n()), (m, h, n));
             let goal = random.reachable_goal(&store);
             assert_eq!(goal.sorted(), store.sorted());
@@ -199,9 +237,35 @@ mod tests {
             if let Some(goal) = random.unreachable_goal(&store) {
                 assert_eq!(goal.sorted(), store.sorted());
                 assert!(!rule::reachable(&store, &goal));
-                refused += 1;
+                refused[usize::from(store.blanks() > 1) * 2 + usize::from(m > 2)] += 1;
             }
         }
-        assert!(refused > 500, "{refused} stores had a goal out of reach");
+        assert!(refused.iter().all(|&count| count > 100), "{refused:?}");
+    }
+
+    /// "If there is one": none where all cassettes are blanks, and one wherever a bound cassette has another beside it that differs.
+    #[test]
+    fn a_goal_out_of_reach_needs_two_numbers() {
+        let mut random = Random::new(2);
+        for (m, n) in [(1, 3), (2, 5), (3, 12)] {
+            let alone = random.store_with_blanks(m, 4, n, n);
+            assert_eq!(random.unreachable_goal(&alone), None);
+            for blanks in 0..n {
+                let mixed = random.store_with_blanks(m, 4, n, blanks);
+                assert!(random.unreachable_goal(&mixed).is_some());
+            }
+        }
+    }
+
+    #[test]
+    fn as_many_blanks_as_asked_for() {
+        let mut random = Random::new(3);
+        for (n, blanks) in [(0, 0), (9, 0), (9, 4), (9, 9), (256, 2), (256, 256)] {
+            let store = random.store_with_blanks(16, 16, n, blanks);
+            assert_eq!((store.n(), store.blanks()), (n, blanks));
+            let mut numbers = store.sorted();
+            numbers.dedup();
+            assert_eq!(numbers.len(), n - blanks + blanks.min(1));
+        }
     }
 }

@@ -45,4 +45,16 @@ mod tests {
         assert!(!reaches(full, "3x4: [2 4 5 6] [1 7 8] [3 9]"));
         assert!(reaches(full, "3x4: [1 9] [2 6 5 4] [3 8 7]"));
     }
+
+    #[test]
+    fn stores_with_blanks() {
+        assert!(reaches("1x3: [b 1 b]", "1x3: [b 1 b]"));
+        assert!(!reaches("1x3: [b 1 b]", "1x3: [b b 1]"));
+        assert!(reaches("2x3: [b 1] [b]", "2x3: [b] [b 1]"));
+        assert!(!reaches("2x3: [b 1] [b]", "2x3: [1] [b b]"));
+        assert!(reaches("3x1: [b] [1] []", "3x1: [] [b] [1]"));
+        let crowded = "3x4: [b 4 5 6] [b 7 b] [3 9]";
+        assert!(reaches(crowded, "3x4: [b b] [b 6 5 4] [3 7 9]"));
+        assert!(!reaches(crowded, "3x4: [b 4 5 6] [3 7 b] [b 9]"));
+    }
 }

@@ -99,7 +99,7 @@ impl Search {
     }
 }
 
-/// Every store of `m` shafts of depth `h` with these cassettes.
+/// Every store of `m` shafts of depth `h` with these cassettes, each once, also where a number stands more than once among them.
 pub fn every_store(m: usize, h: usize, cassettes: &[u8]) -> Vec<Store> {
     let mut stores = Vec::new();
     extend_every(&Store::empty(m, h), 0, cassettes, &mut stores);
@@ -119,6 +119,9 @@ fn extend_every(store: &Store, shaft: usize, left: &[u8], stores: &mut Vec<Store
         return;
     }
     for i in 0..left.len() {
+        if left[..i].contains(&left[i]) {
+            continue;
+        }
         let mut next = store.clone();
         let mut rest = left.to_vec();
         next.shafts[shaft].push(rest.remove(i));
@@ -172,7 +175,9 @@ impl<'a> Lifts<'a> {
 #[cfg(test)]
 mod tests {
     use super::*;
+    use crate::store::BLANK;
     use crate::text;
+    use std::collections::HashSet;
 
     fn store(text: &str) -> Store {
         text::read(text).unwrap()
@@ -184,15 +189,40 @@ mod tests {
         assert_eq!(every_store(3, 1, &[7, 9]).len(), 6);
         assert_eq!(every_store(2, 2, &[1, 2, 3]).len(), 12);
         assert_eq!(every_store(3, 2, &[1, 2, 3, 4, 5, 6]).len(), 720);
+        assert_eq!(every_store(3, 1, &[BLANK, BLANK]).len(), 3);
+        assert_eq!(every_store(2, 2, &[BLANK, 1, BLANK]).len(), 6);
+        assert_eq!(
+            every_store(3, 2, &[1, 2, 3, BLANK, BLANK, BLANK]).len(),
+            120
+        );
+        assert_eq!(every_store(3, 2, &[BLANK; 6]).len(), 1);
     }
 
     #[test]
     fn no_store_twice() {
-        let stores = every_store(3, 2, &[1, 2, 3, 4]);
-        let mut images: Vec<_> = stores.iter().map(image::write).collect();
-        images.sort();
-        images.dedup();
-        assert_eq!(images.len(), stores.len());
+        for cassettes in [[1, 2, 3, 4], [BLANK, 1, BLANK, 2]] {
+            let stores = every_store(3, 2, &cassettes);
+            let mut images: Vec<_> = stores.iter().map(image::write).collect();
+            images.sort();
+            images.dedup();
+            assert_eq!(images.len(), stores.len());
+        }
+    }
+
+    /// Stores with blanks are those in which as many different cassettes stand, each cassette painted over.
+    #[test]
+    fn stores_with_blanks_are_stores_painted_over() {
+        let paint = |cassette: &u8| if *cassette > 2 { BLANK } else { *cassette };
+        let painted = every_store(3, 2, &[1, 2, 3, 4, 5])
+            .into_iter()
+            .map(|mut store| {
+                let slots = store.shafts.iter_mut().flatten();
+                slots.for_each(|slot| *slot = paint(slot));
+                image::write(&store)
+            });
+        let painted: HashSet<_> = painted.collect();
+        let stores = every_store(3, 2, &[1, 2, BLANK, BLANK, BLANK]);
+        assert_eq!(painted, stores.iter().map(image::write).collect());
     }
 
     #[test]
@@ -214,6 +244,15 @@ mod tests {
             assert_eq!(fewest, search.list_to(&to).map(|list| list.len()));
             assert!(*it != from || fewest == Some(3));
         }
+    }
+
+    /// With different cassettes the goal would take three lifts.
+    #[test]
+    fn blanks_need_not_change_places() {
+        let (start, goal) = (store("3x1: [b] [b] []"), store("3x1: [] [b] [b]"));
+        let search = Search::all(&start, 100);
+        assert_eq!(search.count(), 3);
+        assert_eq!(search.list_to(&goal), Some(vec![0x02]));
     }
 
     #[test]

@@ -4,8 +4,12 @@
 pub const MOST_SHAFTS: usize = 16;
 /// The greatest depth.
 pub const MOST_DEPTH: usize = 16;
-/// The greatest cassette number.
-pub const MOST_CASSETTE: usize = 255;
+/// The cassette number of a blank, the only one that may stand more than once (document 02, 5/13).
+pub const BLANK: u8 = 255;
+/// The greatest cassette number, which is the blank's.
+pub const MOST_CASSETTE: usize = BLANK as usize;
+/// The most cassettes a store has: one in every slot.
+pub const MOST_CASSETTES: usize = MOST_SHAFTS * MOST_DEPTH;
 
 /// Shafts of one depth, each with its cassettes from row 1 upward.
 #[derive(Clone, Debug, PartialEq, Eq)]
@@ -33,6 +37,12 @@ impl Store {
         self.shafts.iter().map(Vec::len).sum()
     }
 
+    /// How many of the cassettes are blanks.
+    pub fn blanks(&self) -> usize {
+        let slots = self.shafts.iter().flatten();
+        slots.filter(|&&cassette| cassette == BLANK).count()
+    }
+
     /// e, the count of empty slots.
     pub fn e(&self) -> usize {
         self.m() * self.depth - self.n()
@@ -58,5 +68,20 @@ impl Store {
     /// The list space that a plan asks for: 4hn + 8n.
     pub fn list_space(&self) -> usize {
         4 * self.depth * self.n() + 8 * self.n()
+    }
+}
+
+#[cfg(test)]
+mod tests {
+    use crate::text;
+
+    #[test]
+    fn blanks_count_as_cassettes() {
+        let store = text::read("3x4: [b 1 b] [b] [2 b b b]").unwrap();
+        assert_eq!((store.n(), store.blanks(), store.e()), (8, 6, 4));
+        assert_eq!((store.floor(), store.list_space()), (0, 192));
+        let crowded = text::read("3x2: [b b] [b b] [b]").unwrap();
+        assert_eq!((crowded.e(), crowded.floor()), (1, 1));
+        assert_eq!(text::read("2x2: [1] [2 3]").unwrap().blanks(), 0);
     }
 }

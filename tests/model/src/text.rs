@@ -1,8 +1,11 @@
-//! Stores as text such as `3x2: [1 2] [] [3]`: shafts, depth, and the cassettes of each shaft bottom first.
+//! Stores as text such as `3x2: [1 2] [b] [3 b]`: shafts, depth, and the cassettes of each shaft bottom first, with `b` for a blank.
 //! Lists as text such as the program `plan` prints.
 
 use crate::play;
-use crate::store::{MOST_CASSETTE, MOST_DEPTH, MOST_SHAFTS, Store};
+use crate::store::{BLANK, MOST_CASSETTE, MOST_DEPTH, MOST_SHAFTS, Store};
+
+/// What a blank is called.
+pub const BLANK_WORD: &str = "b";
 
 /// The text of a store.
 pub fn write(store: &Store) -> String {
@@ -15,8 +18,16 @@ pub fn write(store: &Store) -> String {
 }
 
 fn write_shaft(shaft: &[u8]) -> String {
-    let cassettes: Vec<String> = shaft.iter().map(u8::to_string).collect();
+    let cassettes: Vec<String> = shaft.iter().map(|&it| write_cassette(it)).collect();
     format!("[{}]", cassettes.join(" "))
+}
+
+/// A cassette's number, or the word for a blank.
+pub fn write_cassette(cassette: u8) -> String {
+    match cassette {
+        BLANK => BLANK_WORD.into(),
+        _ => cassette.to_string(),
+    }
 }
 
 /// The store of a text, or what is wrong with it.
@@ -50,9 +61,15 @@ fn read_shafts(mut text: &str) -> Result<Vec<Vec<u8>>, String> {
 }
 
 fn read_shaft(text: &str) -> Result<Vec<u8>, String> {
-    text.split_whitespace()
-        .map(|word| Ok(number(word, 1, MOST_CASSETTE)? as u8))
-        .collect()
+    text.split_whitespace().map(read_cassette).collect()
+}
+
+/// A cassette's number, also where it is the blank's, or the word for a blank.
+fn read_cassette(word: &str) -> Result<u8, String> {
+    match word {
+        BLANK_WORD => Ok(BLANK),
+        _ => Ok(number(word, 1, MOST_CASSETTE)? as u8),
+    }
 }
 
 fn number(word: &str, least: usize, most: usize) -> Result<usize, String> {
@@ -63,7 +80,7 @@ fn number(word: &str, least: usize, most: usize) -> Result<usize, String> {
         .ok_or_else(|| format!("not a number from {least} to {most}: {}", word.trim()))
 }
 
-/// The store has `m` shafts, none too high, and no cassette twice.
+/// The store has `m` shafts, none too high, and no cassette twice but blanks.
 fn check(store: &Store, m: usize) -> Result<(), String> {
     if store.m() != m {
         return Err(format!("{m} shafts are due, there are {}", store.m()));
@@ -71,7 +88,8 @@ fn check(store: &Store, m: usize) -> Result<(), String> {
     if let Some(shaft) = store.shafts.iter().position(|s| s.len() > store.depth) {
         return Err(format!("shaft {shaft} is higher than {}", store.depth));
     }
-    match store.sorted().windows(2).find(|two| two[0] == two[1]) {
+    let twice = |two: &&[u8]| two[0] == two[1] && two[0] != BLANK;
+    match store.sorted().windows(2).find(twice) {
         Some(two) => Err(format!("cassette {} stands twice", two[0])),
         None => Ok(()),
     }
@@ -114,11 +132,26 @@ mod tests {
 
     #[test]
     fn there_and_back() {
-        for text in ["3x2: [1 2] [] [3]", "1x1: []", "2x16: [255] [16 4 9]"] {
+        for text in [
+            "3x2: [1 2] [] [3]",
+            "1x1: []",
+            "2x16: [b] [16 4 9]",
+            "2x3: [b 1 b] [b b]",
+        ] {
             assert_eq!(write(&read(text).unwrap()), text);
         }
         let spaced = read(" 2 x 3 :[ 1  2 ][3]").unwrap();
         assert_eq!(write(&spaced), "2x3: [1 2] [3]");
+    }
+
+    #[test]
+    fn a_blank_by_its_number() {
+        let blanks = read(&format!("2x2: [1 {BLANK}] [{BLANK}]")).unwrap();
+        assert_eq!(blanks.shafts, [vec![1, BLANK], vec![BLANK]]);
+        assert_eq!(write(&blanks), "2x2: [1 b] [b]");
+        let before = BLANK - 1;
+        assert!(read(&format!("2x2: [1 {before}] [b]")).is_ok());
+        assert!(read(&format!("2x2: [1 {before}] [{before}]")).is_err());
     }
 
     #[test]
@@ -133,6 +166,9 @@ mod tests {
             "1x17: []",
             "2x1: [1 2] []",
             "2x2: [1] [1]",
+            "2x2: [1 b] [b 1]",
+            "2x2: [bb] []",
+            "2x2: [B] []",
             "2x2: [0] []",
             "2x2: [256] []",
             "2x2: [1 []",

@@ -1,22 +1,41 @@
-//! How deep a cassette is buried (document 02, 1/13).
+//! How deep a cassette is buried (document 02, 1/13), and how deep some blank (5/13).
 
 use crate::store::Store;
 
-/// The answer for a cassette: 16 where it isn't in the store, 17 where no lifts uncover it, or else the fewest lifts after which nothing stands on it.
+/// A shaft, and a row, which counts from 1.
+pub type Place = (usize, usize);
+
+/// The answer for a number: 16 where it isn't in the store, 17 where no lifts uncover it, or else the fewest lifts after which nothing stands on it. Of a
+/// number that stands more than once, on one of its places.
 pub fn uncover(store: &Store, cassette: u16) -> Result<usize, u8> {
-    let (shaft, row) = place(store, cassette).ok_or(16)?;
-    if row < store.floor() {
-        return Err(17);
+    match nearest(store, cassette) {
+        Some(place) => Ok(above(store, place)),
+        None if places(store, cassette).next().is_none() => Err(16),
+        None => Err(17),
     }
-    Ok(store.shafts[shaft].len() - row)
 }
 
-/// The shaft where a cassette stands, and its row.
-pub fn place(store: &Store, cassette: u16) -> Option<(usize, usize)> {
-    let row = |shaft: &Vec<u8>| Some(shaft.iter().position(|&it| u16::from(it) == cassette)? + 1);
-    (0..)
-        .zip(&store.shafts)
-        .find_map(|(at, shaft)| Some((at, row(shaft)?)))
+/// Of the places that show a number and can be uncovered, one that the fewest cassettes stand on.
+pub fn nearest(store: &Store, cassette: u16) -> Option<Place> {
+    let lowest = store.floor();
+    places(store, cassette)
+        .filter(|&(_, row)| row >= lowest)
+        .min_by_key(|&place| above(store, place))
+}
+
+/// The places that show a number.
+pub fn places(store: &Store, cassette: u16) -> impl Iterator<Item = Place> {
+    let shafts = store.shafts.iter().enumerate();
+    shafts.flat_map(move |(at, shaft)| {
+        let rows = (1..).zip(shaft);
+        rows.filter(move |&(_, &it)| u16::from(it) == cassette)
+            .map(move |(row, _)| (at, row))
+    })
+}
+
+/// How many cassettes stand on a place.
+pub fn above(store: &Store, (shaft, row): Place) -> usize {
+    store.shafts[shaft].len() - row
 }
 
 /// The store shows the cassette on top of some shaft.
@@ -30,11 +49,16 @@ pub fn uncovered(store: &Store, cassette: u16) -> bool {
 #[cfg(test)]
 mod tests {
     use super::*;
+    use crate::store::{BLANK, MOST_CASSETTE};
     use crate::text;
 
     fn answers(store: &str, cassettes: &[u16]) -> Vec<Result<usize, u8>> {
         let store = text::read(store).unwrap();
         cassettes.iter().map(|&it| uncover(&store, it)).collect()
+    }
+
+    fn blank(store: &str) -> Result<usize, u8> {
+        uncover(&text::read(store).unwrap(), BLANK.into())
     }
 
     #[test]
@@ -53,8 +77,36 @@ mod tests {
     }
 
     #[test]
+    fn the_nearest_blank() {
+        assert_eq!(blank("3x4: [b 1 2] [3 b 4] []"), Ok(1));
+        assert_eq!(blank("3x4: [3 b 4] [b 1 2] []"), Ok(1));
+        assert_eq!(blank("3x4: [b 1 b 2] [3] []"), Ok(1));
+        assert_eq!(blank("3x4: [b 1 b] [b b b] []"), Ok(0));
+    }
+
+    /// With two empty slots row 2 can be uncovered in a full shaft, and row 1 in none: fewer stand on it, but where the slots are.
+    #[test]
+    fn the_nearest_blank_that_can_be_uncovered() {
+        assert_eq!(blank("3x4: [b 1] [2 b 3 4] [5 6 7 8]"), Ok(2));
+        assert_eq!(blank("3x4: [2 b 3 4] [b 1] [5 6 7 8]"), Ok(2));
+        let store = text::read("3x4: [b 1] [2 b 3 4] [5 6 b 8]").unwrap();
+        assert_eq!(nearest(&store, BLANK.into()), Some((2, 3)));
+        let all: Vec<_> = places(&store, BLANK.into()).collect();
+        assert_eq!(all, [(0, 1), (1, 2), (2, 3)]);
+    }
+
+    #[test]
+    fn no_blank_that_can_be_uncovered() {
+        assert_eq!(blank("3x2: [b 1] [b 2] [3 4]"), Err(17));
+        assert_eq!(blank("3x2: [b 1] [b 2] [3 b]"), Ok(0));
+        assert_eq!(blank("1x4: [b b 1]"), Err(17));
+        assert_eq!(blank("3x2: [1] [2] [3]"), Err(16));
+    }
+
+    #[test]
     fn numbers_that_are_not_there() {
-        let absent = answers("2x2: [1 2] [3]", &[0, 4, 255, 256, 257, 65_535]);
-        assert_eq!(absent, [Err(16); 6]);
+        let past = MOST_CASSETTE as u16 + 1;
+        let numbers = [0, 4, BLANK.into(), past, past + 1, 65_535];
+        assert_eq!(answers("2x2: [1 2] [3]", &numbers), [Err(16); 6]);
     }
 }

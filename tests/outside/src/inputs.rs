@@ -2,11 +2,11 @@
 
 use crate::calls::Order;
 use halyard_model::image::{self, Field};
-use halyard_model::store::{MOST_CASSETTE, MOST_DEPTH, MOST_SHAFTS};
+use halyard_model::store::{BLANK, MOST_CASSETTE, MOST_DEPTH, MOST_SHAFTS};
 use halyard_model::{Random, Store, play};
 
 /// The most list space a plan can ask for.
-pub const MOST_LIST_SPACE: usize = 18_360;
+pub const MOST_LIST_SPACE: usize = 18_432;
 
 /// A store of any shape, or of the largest.
 pub fn store(random: &mut Random) -> Store {
@@ -14,10 +14,14 @@ pub fn store(random: &mut Random) -> Store {
     store_of_shape(random, m, h)
 }
 
-/// A store of this shape with 0, 1, 2, h - 1, h, h + 1 or any number of empty slots.
+/// A store of this shape with 0, 1, 2, h - 1, h, h + 1 or any number of empty slots, with different cassettes or with blanks.
 pub fn store_of_shape(random: &mut Random, m: usize, h: usize) -> Store {
     let n = cassette_count(random, m, h);
-    random.store(m, h, n)
+    if n <= MOST_CASSETTE && random.below(2) == 0 {
+        return random.store(m, h, n);
+    }
+    let blanks = blank_count(random, n);
+    random.store_with_blanks(m, h, n, blanks)
 }
 
 fn shape(random: &mut Random) -> (usize, usize) {
@@ -33,7 +37,15 @@ fn shape(random: &mut Random) -> (usize, usize) {
 fn cassette_count(random: &mut Random, m: usize, h: usize) -> usize {
     let many = random.below(m * h + 1);
     let e = *random.one_of(&[0, 1, 2, h - 1, h, h + 1, many]);
-    (m * h).saturating_sub(e).min(MOST_CASSETTE)
+    (m * h).saturating_sub(e)
+}
+
+/// Of n cassettes none, one, two, half, all but three, all or any number. There are as many at least as leave the others different.
+fn blank_count(random: &mut Random, n: usize) -> usize {
+    let least = n.saturating_sub(MOST_CASSETTE - 1);
+    let any = random.below(n + 1);
+    let blanks = *random.one_of(&[0, 1, 2, n / 2, n.saturating_sub(3), n, any]);
+    blanks.clamp(least, n)
 }
 
 /// A goal for a start: one that can be reached, the start itself, one just out of reach, any order of the same cassettes,
@@ -60,27 +72,25 @@ fn other_shape(random: &mut Random, start: &Store) -> Store {
         (m, (h + 1).min(MOST_DEPTH)),
         (h, m),
     ]);
-    let mut goal = random.store(m, h, start.n());
-    let mut cassettes = start.cassettes().into_iter();
-    for slot in goal.shafts.iter_mut().flatten() {
-        *slot = cassettes.next().expect("as many cassettes");
-    }
-    goal
+    random.in_shape(m, h, start)
 }
 
-/// The start with one cassette more, one less, or one that has changed its number.
+/// The start with one cassette more, one less, or one that has changed its number, often from or to the blank's.
 fn other_cassettes(random: &mut Random, start: &Store) -> Store {
     let mut goal = random.reachable_goal(start);
-    let absent: Vec<u8> = (1..=MOST_CASSETTE as u8)
+    let absent: Vec<u8> = (1..BLANK)
         .filter(|cassette| !start.cassettes().contains(cassette))
         .collect();
     let at = random.below(goal.m());
     let shaft = &mut goal.shafts[at];
-    if random.below(2) == 0 {
-        shaft.pop();
-    }
-    if shaft.len() < goal.depth && !absent.is_empty() {
-        shaft.push(*random.one_of(&absent));
+    let popped = random.below(2) == 0 && shaft.pop().is_some();
+    if shaft.len() < goal.depth && !(popped && random.below(3) == 0) {
+        let blank = absent.is_empty() || random.below(2) == 0;
+        shaft.push(if blank {
+            BLANK
+        } else {
+            *random.one_of(&absent)
+        });
     }
     goal
 }
@@ -113,16 +123,16 @@ pub fn damaged(random: &mut Random) -> Vec<u8> {
     bytes
 }
 
-/// One field has any value, or the first cassette's, or the depth and one.
+/// One field has any value, or that of a cassette in the image, or the depth and one.
 fn with_a_field_changed(random: &mut Random, store: &Store) -> Vec<u8> {
     let mut fields = image::fields(store);
-    let first_cassette = fields.iter().find(|field| field.width == 8).copied();
+    let cassettes = store.cassettes();
     let at = random.below(fields.len());
     let Field { width, .. } = fields[at];
-    fields[at].value = match (random.below(4), width, first_cassette) {
-        (0, 8, Some(first)) => first.value,
-        (1, 8, _) => 0,
-        (0, 5, _) => store.depth + 1,
+    fields[at].value = match (random.below(4), width) {
+        (0, 8) => usize::from(*random.one_of(&cassettes)),
+        (1, 8) => 0,
+        (0, 5) => store.depth + 1,
         _ => random.below(1 << width),
     };
     image::pack(&fields)
@@ -196,7 +206,7 @@ fn any_lift(random: &mut Random, store: &Store) -> u8 {
     play::lift_byte(random.below(store.m()), random.below(store.m()))
 }
 
-/// Orders: for cassettes of the store, for the first one again, and for numbers that no slot of it shows.
+/// Orders: for cassettes of the store, for the first one again, for a blank, and for numbers that no slot of it shows.
 pub fn orders(random: &mut Random, store: &Store) -> Vec<Order> {
     let there = store.cassettes();
     let count = *random.one_of(&[0, 1, 2, 40, 255, 300]);
@@ -204,9 +214,9 @@ pub fn orders(random: &mut Random, store: &Store) -> Vec<Order> {
     for _ in 0..count {
         let any = random.word() as u16;
         names.push(match random.below(8) {
-            0 => *random.one_of(&[0, 255, 256, 65_535]),
+            0 => *random.one_of(&[0, BLANK.into(), MOST_CASSETTE as u16 + 1, 65_535]),
             1 => any,
-            2 => any % 256,
+            2 => any % (MOST_CASSETTE as u16 + 1),
             3 if !names.is_empty() => names[0],
             _ if there.is_empty() => 1,
             _ => u16::from(*random.one_of(&there)),
@@ -214,4 +224,45 @@ pub fn orders(random: &mut Random, store: &Store) -> Vec<Order> {
     }
     let order = |name| Order::naming(name, random);
     names.into_iter().map(order).collect()
+}
+
+#[cfg(test)]
+mod tests {
+    use super::*;
+    use halyard_model::store::MOST_CASSETTES;
+
+    /// How many of the stores are like this.
+    fn met(stores: &[Store], like: impl Fn(&Store) -> bool) -> usize {
+        stores.iter().filter(|store| like(store)).count()
+    }
+
+    #[test]
+    fn stores_with_any_count_of_blanks() {
+        let mut random = Random::new(71);
+        let stores: Vec<Store> = (0..4_000).map(|_| store(&mut random)).collect();
+        assert!(met(&stores, |it| it.blanks() == 0) > 400);
+        assert!(met(&stores, |it| it.blanks() == 1) > 400);
+        assert!(met(&stores, |it| it.blanks() > 1 && it.blanks() < it.n()) > 400);
+        assert!(met(&stores, |it| it.blanks() > 1 && it.blanks() == it.n()) > 100);
+        assert!(met(&stores, |it| it.n() == MOST_CASSETTES) > 40);
+        assert!(met(&stores, |it| it.blanks() == MOST_CASSETTES) > 4);
+    }
+
+    /// Goals in which only the count of blanks differs from the start's.
+    #[test]
+    fn goals_with_a_blank_more_or_less() {
+        let mut random = Random::new(72);
+        let [mut more, mut less] = [0, 0];
+        for _ in 0..4_000 {
+            let start = store(&mut random);
+            let goal = other_cassettes(&mut random, &start);
+            let others = |store: &Store| store.n() - store.blanks();
+            let blanks = (start.blanks(), goal.blanks());
+            if blanks.0 > 0 && others(&start) == others(&goal) {
+                more += usize::from(blanks.1 > blanks.0);
+                less += usize::from(blanks.1 < blanks.0);
+            }
+        }
+        assert!(more > 100 && less > 50, "{more} more, {less} less");
+    }
 }

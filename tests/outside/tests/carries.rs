@@ -1,8 +1,9 @@
 //! How often each cassette was carried by a replay, and what single lifts tell (document 02, 2/13). The C calls do not show it, so the program carry_cases
-//! prints it: it replays a list with the proved library and does its lifts one by one, and what it prints is compared with lifts of the model.
+//! prints it: it replays a list with the proved library and does its lifts one by one, and what it prints is compared with lifts of the model. Carries of
+//! blanks are counted together (5/13); the counts beside the single blanks must add up to that, and which of them has how many is free.
 
 use halyard_model::play::{self, Replayed};
-use halyard_model::store::{MOST_DEPTH, MOST_SHAFTS};
+use halyard_model::store::{BLANK, MOST_CASSETTES, MOST_DEPTH, MOST_SHAFTS};
 use halyard_model::{Random, Store, image, text};
 use halyard_outside::inputs;
 use std::fs;
@@ -59,7 +60,31 @@ fn printed(image: &[u8], list: &[u8]) -> String {
     printed_by(Command::new(program()), image, list)
 }
 
-/// What is printed of a replay that ended like this, and of the same lifts one by one.
+/// The three numbers of the line of a blank: its own, the count beside its slot, and the count by its number.
+fn blank_line(line: &str) -> Option<[usize; 3]> {
+    let numbers: Option<Vec<usize>> = line.split(' ').map(|word| word.parse().ok()).collect();
+    let numbers = <[usize; 3]>::try_from(numbers?).ok()?;
+    (numbers[0] == usize::from(BLANK)).then_some(numbers)
+}
+
+/// What was printed, with the count beside each blank set to the count of all blanks, once they are seen to add up to it.
+fn with_blanks_together(printed: &str) -> String {
+    let beside: usize = printed
+        .lines()
+        .filter_map(blank_line)
+        .map(|[_, times, _]| times)
+        .sum();
+    let together = |line| match blank_line(line) {
+        Some([_, _, by_number]) => {
+            assert_eq!(beside, by_number, "beside the blanks: {printed}");
+            format!("{BLANK} {by_number} {by_number}\n")
+        }
+        None => format!("{line}\n"),
+    };
+    printed.lines().map(together).collect()
+}
+
+/// What is printed of a replay that ended like this, and of the same lifts one by one, with blanks together.
 fn expected(start: &Store, list: &[u8], end: &Replayed) -> String {
     let times = |cassette: u8| end.carries[usize::from(cassette)];
     let line = |cassette| format!("{cassette} {0} {0}\n", times(cassette));
@@ -94,7 +119,8 @@ fn compare(image: &[u8], list: &[u8]) -> Result<Replayed, u8> {
         Err(number) => (format!("number {number}\n"), Err(number)),
     };
     let about = || format!("image {image:02x?}, list {list:02x?}");
-    assert_eq!(printed(image, list), wanted, "{}", about());
+    let printed = with_blanks_together(&printed(image, list));
+    assert_eq!(printed, wanted, "{}", about());
     end
 }
 
@@ -114,6 +140,16 @@ fn three_lifts_of_document_01() {
         printed(&bytes("3x3: [] [] []"), &[]),
         "number 0\nlifts 0\ntold 0 0\n"
     );
+}
+
+/// Two blanks lifted twice and once, and one that stays: each has 3 as its count by number, and the three counts beside them add up to it.
+#[test]
+fn blanks_are_counted_together() {
+    let store = bytes("3x2: [b b] [] [b 1]");
+    let printed = printed(&store, &[0x01, 0x10, 0x21, 0x21]);
+    let (blank, told) = (format!("{BLANK} 3 3\n"), 3 * usize::from(BLANK) + 1);
+    let wanted = format!("number 0\nlifts 4\n{blank}{blank}1 1 1\n{blank}told {told} 6\n");
+    assert_eq!(with_blanks_together(&printed), wanted);
 }
 
 /// A lift that is refused counts nothing, nor does what comes after it; the single lifts go on past it.
@@ -143,7 +179,7 @@ fn every_shape() {
     let mut random = Random::new(51);
     let mut ends = Vec::new();
     for (m, h) in (1..=MOST_SHAFTS).flat_map(|m| (1..=MOST_DEPTH).map(move |h| (m, h))) {
-        for _ in 0..3 {
+        for _ in 0..5 {
             let store = inputs::store_of_shape(&mut random, m, h);
             let list = inputs::list(&mut random, &store);
             ends.extend(compare(&image::write(&store), &list));
@@ -157,6 +193,10 @@ fn every_shape() {
     assert!(nothing_done >= 20, "no lift done: {nothing_done} times");
     let carried_again = met(&ends, |end| end.carries.iter().any(|&times| times > 1));
     assert!(carried_again >= 100, "carried again: {carried_again} times");
+    let blanks = met(&ends, |end| {
+        end.store.blanks() > 1 && end.carries[usize::from(BLANK)] > 1
+    });
+    assert!(blanks >= 100, "blanks carried again: {blanks} times");
 }
 
 /// A refused image has its number printed, and nothing else.
@@ -181,8 +221,8 @@ fn damaged_images() {
 #[test]
 fn longest_lists() {
     let mut random = Random::new(53);
-    for n in [1, 240, 255] {
-        let store = random.store(MOST_SHAFTS, MOST_DEPTH, n);
+    for (n, blanks) in [(1, 0), (240, 0), (254, 0), (255, 1), (255, 130), (255, 255)] {
+        let store = random.store_with_blanks(MOST_SHAFTS, MOST_DEPTH, n, blanks);
         let list = inputs::legal_list(&mut random, &store, MOST_LIFTS);
         let end = compare(&image::write(&store), &list).unwrap();
         assert_eq!((end.number, end.count), (0, MOST_LIFTS));
@@ -197,11 +237,21 @@ fn one_cassette_all_the_time() {
     assert_eq!(printed(&bytes("2x1: [7] []"), &list), wanted);
 }
 
+/// A store with no empty slot, where no lift can be done.
+#[test]
+fn all_blanks() {
+    let mut random = Random::new(55);
+    let n = MOST_CASSETTES;
+    let store = random.store_with_blanks(MOST_SHAFTS, MOST_DEPTH, n, n);
+    let end = compare(&image::write(&store), &[0x01]).unwrap();
+    assert_eq!((end.number, end.count), (14, 0));
+}
+
 /// The largest store and the longest list on a stack of 64 KiB, of which the environment takes nothing.
 #[test]
 fn a_small_stack() {
     let mut random = Random::new(54);
-    let store = random.store(MOST_SHAFTS, MOST_DEPTH, 250);
+    let store = random.store_with_blanks(MOST_SHAFTS, MOST_DEPTH, 255, 100);
     let list = inputs::legal_list(&mut random, &store, MOST_LIFTS);
     let mut command = Command::new("sh");
     command
@@ -209,5 +259,6 @@ fn a_small_stack() {
         .arg(program());
     command.env_clear();
     let wanted = expected(&store, &list, &play::replay(&store, &list));
-    assert_eq!(printed_by(command, &image::write(&store), &list), wanted);
+    let printed = printed_by(command, &image::write(&store), &list);
+    assert_eq!(with_blanks_together(&printed), wanted);
 }

@@ -1,7 +1,8 @@
-//! Rows of orders (document 02, 1/13): every cassette of every store of the shapes with at most six slots against a full search for the fewest lifts, and
-//! random rows.
+//! Rows of orders (document 02, 1/13): every number in every store of the shapes with at most six slots, with every count of blanks, against a full search
+//! for the fewest lifts, and random rows.
 
 use halyard_model::search::{Lifts, every_store};
+use halyard_model::store::{BLANK, MOST_CASSETTE};
 use halyard_model::{Random, Store, image, text, uncover};
 use halyard_outside::calls::{Answer, Caller, Order, c};
 use halyard_outside::{checks, expected, guarded::GUARD, rounds};
@@ -9,11 +10,13 @@ use std::ptr::null_mut;
 
 const SLOTS: usize = 6;
 
-/// Names that no slot shows: 0, the numbers just past what a slot can hold, the greatest, and one that is absent.
+/// Names that no slot shows: 0, the numbers just past what a slot can hold, the greatest, the first that is absent, and the last.
 fn absent(cassettes: &[u8]) -> Vec<u16> {
-    let free = (1..=255).find(|cassette| !cassettes.contains(cassette));
-    let mut absent = vec![0, 256, 257, 65_535];
-    absent.extend(free.map(u16::from));
+    let past = MOST_CASSETTE as u16 + 1;
+    let mut free = (1..=BLANK).filter(|cassette| !cassettes.contains(cassette));
+    let mut absent = vec![0, past, past + 1, 65_535];
+    absent.extend(free.next().map(u16::from));
+    absent.extend(free.next_back().map(u16::from));
     absent
 }
 
@@ -22,7 +25,9 @@ fn absent(cassettes: &[u8]) -> Vec<u16> {
 fn compare_all(caller: &mut Caller, random: &mut Random, m: usize, h: usize, cassettes: &[u8]) {
     let stores = every_store(m, h, cassettes);
     let lifts = Lifts::between(&stores);
-    let there: Vec<u16> = cassettes.iter().copied().map(u16::from).collect();
+    let mut there: Vec<u16> = cassettes.iter().copied().map(u16::from).collect();
+    there.sort_unstable();
+    there.dedup();
     let fewest: Vec<Vec<Option<usize>>> = there
         .iter()
         .map(|&cassette| lifts.fewest(|store| uncover::uncovered(store, cassette)))
@@ -66,8 +71,10 @@ fn every_cassette_of_every_small_store() {
     for m in 1..=SLOTS {
         for h in 1..=SLOTS / m {
             for n in 0..=m * h {
-                let cassettes = random.cassettes(n);
-                compare_all(&mut caller, &mut random, m, h, &cassettes);
+                for blanks in 0..=n {
+                    let cassettes = random.cassettes_with_blanks(n, blanks);
+                    compare_all(&mut caller, &mut random, m, h, &cassettes);
+                }
             }
         }
     }
@@ -91,13 +98,18 @@ fn random_rows() {
     }
 }
 
-/// The row of every number that an order can name, on 16 x 16 with one and with sixteen empty slots, on three shafts, and on one.
+/// The row of every number that an order can name, on 16 x 16 with one and with sixteen empty slots, on three shafts, and on one, with and without blanks.
 #[test]
 fn every_name() {
     let mut random = Random::new(43);
     let mut caller = Caller::new(43, GUARD);
+    let mut stores = Vec::new();
     for (m, h, n) in [(16, 16, 255), (16, 16, 240), (3, 16, 40), (1, 16, 9)] {
-        let image = image::write(&random.store(m, h, n));
+        stores.push(random.store(m, h, n));
+        stores.push(random.store_with_blanks(m, h, n, n / 2));
+    }
+    for store in stores {
+        let image = image::write(&store);
         let orders: Vec<_> = (0..=65_535)
             .map(|name| Order::naming(name, &mut random))
             .collect();

@@ -1,5 +1,6 @@
 //! Random stores up to 16 x 16, damaged images, lists and lent lengths, from fixed seeds, and some inputs in full.
 
+use halyard_model::store::BLANK;
 use halyard_model::{Random, Store, image};
 use halyard_outside::calls::{Answer, Caller};
 use halyard_outside::{checks, guarded::GUARD, inputs, rounds};
@@ -56,8 +57,19 @@ fn out_lengths() {
 fn every_length() {
     let mut random = Random::new(26);
     let mut caller = Caller::new(26, GUARD);
-    for (m, h, n) in [(1, 3, 2), (2, 3, 4), (3, 2, 5), (3, 3, 6), (4, 2, 3)] {
-        let start = random.store(m, h, n);
+    for (m, h, n, blanks) in [
+        (1, 3, 2, 0),
+        (1, 3, 3, 2),
+        (2, 3, 4, 0),
+        (2, 3, 4, 3),
+        (3, 2, 5, 0),
+        (3, 2, 5, 5),
+        (3, 3, 6, 1),
+        (3, 3, 6, 4),
+        (4, 2, 3, 0),
+        (4, 2, 6, 2),
+    ] {
+        let start = random.store_with_blanks(m, h, n, blanks);
         let goal = random.reachable_goal(&start);
         let (from, to) = (image::write(&start), image::write(&goal));
         for list_len in 0..start.list_space() + 20 {
@@ -70,13 +82,22 @@ fn every_length() {
     }
 }
 
+/// Images of small stores and of the largest, with and without blanks.
+fn some_images(random: &mut Random) -> Vec<Vec<u8>> {
+    let different = [(1, 1, 0), (1, 1, 1), (3, 2, 3), (5, 7, 20), (16, 16, 255)];
+    let blank = [(2, 2, 3, 2), (5, 7, 30, 11), (16, 16, 256, 128)];
+    let mut stores: Vec<Store> = Vec::new();
+    stores.extend(different.map(|(m, h, n)| random.store(m, h, n)));
+    stores.extend(blank.map(|(m, h, n, blanks)| random.store_with_blanks(m, h, n, blanks)));
+    stores.iter().map(image::write).collect()
+}
+
 /// Every prefix of an image, and images with many bytes after them.
 #[test]
 fn every_cut() {
     let mut random = Random::new(27);
     let mut caller = Caller::new(27, GUARD);
-    for (m, h, n) in [(1, 1, 0), (1, 1, 1), (3, 2, 3), (5, 7, 20), (16, 16, 255)] {
-        let image = image::write(&random.store(m, h, n));
+    for image in some_images(&mut random) {
         for len in 0..=image.len() {
             checks::check(&mut caller, &image[..len]);
         }
@@ -101,18 +122,38 @@ fn every_short_image() {
     }
 }
 
-/// Every number as the 256th cassette of a store with a slot for it: 0 is a 4, and each other stood earlier.
+/// What a check of a full store of 16 x 16 answers: all of these cassettes, and one more.
+fn check_of_a_full_store(cassettes: &[u8], last: u8) -> Answer {
+    let cassettes = [cassettes, &[last]].concat();
+    assert_eq!(cassettes.len(), 256);
+    let full = Store {
+        depth: 16,
+        shafts: cassettes.chunks(16).map(<[u8]>::to_vec).collect(),
+    };
+    Caller::new(33, GUARD).check(&image::write(&full))
+}
+
+/// Every number as the 256th cassette where each has stood: 0 is a 4, only a blank may stand again, and each other stood earlier.
 #[test]
 fn a_256th_cassette() {
-    let mut caller = Caller::new(33, GUARD);
-    for last in 0..=255 {
-        let cassettes: Vec<u8> = (1..=255).chain([last]).collect();
-        let full = Store {
-            depth: 16,
-            shafts: cassettes.chunks(16).map(<[u8]>::to_vec).collect(),
+    let cassettes: Vec<u8> = (1..=BLANK).collect();
+    for last in 0..=BLANK {
+        let number = match last {
+            0 => 4,
+            BLANK => 0,
+            _ => 5,
         };
-        let number = if last == 0 { 4 } else { 5 };
-        let answer = caller.check(&image::write(&full));
+        let answer = check_of_a_full_store(&cassettes, last);
+        assert_eq!(answer, Answer::of(number, 0), "{last}");
+    }
+}
+
+/// Every number as the 256th cassette behind blanks alone: no other stood earlier.
+#[test]
+fn a_256th_cassette_behind_blanks() {
+    for last in 0..=BLANK {
+        let number = if last == 0 { 4 } else { 0 };
+        let answer = check_of_a_full_store(&[BLANK; 255], last);
         assert_eq!(answer, Answer::of(number, 0), "{last}");
     }
 }
@@ -122,8 +163,7 @@ fn a_256th_cassette() {
 fn every_bit() {
     let mut random = Random::new(28);
     let mut caller = Caller::new(28, GUARD);
-    for (m, h, n) in [(1, 1, 0), (3, 2, 3), (5, 7, 20), (16, 16, 255)] {
-        let image = image::write(&random.store(m, h, n));
+    for image in some_images(&mut random) {
         for bit in 0..image.len() * 8 {
             let mut changed = image.clone();
             changed[bit / 8] ^= 128 >> (bit % 8);

@@ -1,7 +1,8 @@
 //! Stores of larger shapes, against a full search from each start.
 
 use halyard_model::search::{Search, every_store};
-use halyard_model::{Random, image, text};
+use halyard_model::store::BLANK;
+use halyard_model::{Random, Store, image, text};
 use halyard_outside::calls::Caller;
 use halyard_outside::{checks, guarded::GUARD};
 
@@ -9,32 +10,37 @@ use halyard_outside::{checks, guarded::GUARD};
 const MOST: usize = 8_000;
 
 /// Goals of each kind for a start, with "no" as the search has it. False where the search did not end.
-fn compare_from_a_start(
-    caller: &mut Caller,
-    random: &mut Random,
-    m: usize,
-    h: usize,
-    n: usize,
-) -> bool {
-    let start = random.store(m, h, n);
-    let search = Search::all(&start, MOST);
+fn compare_from_a_start(caller: &mut Caller, random: &mut Random, start: &Store) -> bool {
+    let search = Search::all(start, MOST);
     if !search.ended() {
         return false;
     }
     let mut goals = Vec::new();
     for _ in 0..40 {
-        goals.push(random.reachable_goal(&start));
-        goals.push(random.rearranged(&start));
-        goals.extend(random.unreachable_goal(&start));
+        goals.push(random.reachable_goal(start));
+        goals.push(random.rearranged(start));
+        goals.extend(random.unreachable_goal(start));
     }
-    let from = image::write(&start);
-    for goal in &goals {
+    compare_goals(caller, start, &search, &goals);
+    true
+}
+
+/// The calls for each goal, with "no" as the search has it.
+fn compare_goals(caller: &mut Caller, start: &Store, search: &Search, goals: &[Store]) {
+    let from = image::write(start);
+    for goal in goals {
         let number = if search.reaches(goal) { 0 } else { 15 };
         let to = image::write(goal);
         checks::reachable(caller, &from, &to, number);
         checks::plan(caller, &from, &to, start.list_space(), number);
     }
-    true
+}
+
+/// The shapes of seven to sixteen slots.
+fn shapes() -> impl Iterator<Item = (usize, usize)> {
+    (1..=16)
+        .flat_map(|m| (1..=16).map(move |h| (m, h)))
+        .filter(|(m, h)| (7..=16).contains(&(m * h)))
 }
 
 #[test]
@@ -42,14 +48,11 @@ fn shapes_of_seven_to_sixteen_slots() {
     let mut caller = Caller::new(11, GUARD);
     let mut random = Random::new(11);
     let mut searches = 0;
-    for (m, h) in (1..=16).flat_map(|m| (1..=16).map(move |h| (m, h))) {
-        if !(7..=16).contains(&(m * h)) {
-            continue;
-        }
+    for (m, h) in shapes() {
         for n in 0..=m * h {
-            if compare_from_a_start(&mut caller, &mut random, m, h, n) {
-                searches += 1;
-            }
+            let start = random.store(m, h, n);
+            let ended = compare_from_a_start(&mut caller, &mut random, &start);
+            searches += usize::from(ended);
         }
     }
     assert!(searches > 300, "{searches} searches ended");
@@ -58,14 +61,83 @@ fn shapes_of_seven_to_sixteen_slots() {
     }
 }
 
+/// Two blanks, all but three, or any count of them.
+#[test]
+fn shapes_of_seven_to_sixteen_slots_with_blanks() {
+    let mut caller = Caller::new(13, GUARD);
+    let mut random = Random::new(13);
+    let mut searches = 0;
+    for (m, h) in shapes() {
+        for n in 2..=m * h {
+            let any = random.from_to(2, n);
+            let blanks = *random.one_of(&[2, n.saturating_sub(3).max(2), any]);
+            let start = random.store_with_blanks(m, h, n, blanks);
+            let ended = compare_from_a_start(&mut caller, &mut random, &start);
+            searches += usize::from(ended);
+        }
+    }
+    assert!(searches > 250, "{searches} searches ended");
+    for number in [0, 15] {
+        assert!(caller.answers_with(number) > 10_000, "{number} is rare");
+    }
+}
+
+/// Every goal of nine cassettes in three shafts of four, where the bottom row never changes: three of them and blanks, one of which is in that row.
+#[test]
+fn every_goal_of_six_blanks_and_three_others() {
+    let mut caller = Caller::new(14, GUARD);
+    let start = text::read("3x4: [1 b b 2] [b b b] [3 b]").unwrap();
+    let goals = every_store(3, 4, &start.cassettes());
+    assert_eq!(goals.len(), 5_040);
+    let search = Search::all(&start, MOST);
+    assert!(search.ended());
+    compare_goals(&mut caller, &start, &search, &goals);
+    // The six free cassettes, one of them no blank, in any order, and three empty slots over three shafts.
+    assert_eq!(search.count(), 6 * 10);
+}
+
+/// 16 x 16 with one empty slot, blanks but for two on top and one under a blank: every goal that the search finds, and some that it doesn't.
+#[test]
+fn blanks_but_for_a_few_in_sixteen_shafts_of_sixteen() {
+    let mut caller = Caller::new(15, GUARD);
+    let mut random = Random::new(15);
+    let mut start = Store {
+        depth: 16,
+        shafts: vec![vec![BLANK; 16]; 16],
+    };
+    for (shaft, row, cassette) in [(0, 16, 1), (5, 16, 2), (9, 15, 3)] {
+        start.shafts[shaft][row - 1] = cassette;
+    }
+    start.shafts[15].pop();
+    let search = Search::all(&start, MOST);
+    assert!(search.ended());
+    assert_eq!(search.count(), 16 * 15 * 14);
+    let found = search.images().map(|image| image::read(image).unwrap());
+    let mut goals: Vec<Store> = found.collect();
+    goals.extend((0..300).filter_map(|_| random.unreachable_goal(&start)));
+    compare_goals(&mut caller, &start, &search, &goals);
+    for number in [0, 15] {
+        assert!(caller.answers_with(number) >= 600, "{number} is rare");
+    }
+}
+
 /// "m 3, h 4, n 8 (e 4), any goal: yes."
 #[test]
 fn every_goal_of_eight_cassettes_in_three_shafts_of_four() {
+    every_goal_is_reached("3x4: [1 2 3 4] [5 6 7 8] []", 604_800);
+}
+
+#[test]
+fn every_goal_of_four_cassettes_and_four_blanks_in_three_shafts_of_four() {
+    every_goal_is_reached("3x4: [b 2 b 4] [1 b 3 b] []", 25_200);
+}
+
+fn every_goal_is_reached(start: &str, count: usize) {
     let mut caller = Caller::new(12, GUARD);
-    let start = text::read("3x4: [1 2 3 4] [5 6 7 8] []").unwrap();
+    let start = text::read(start).unwrap();
     let from = image::write(&start);
     let goals = every_store(3, 4, &start.cassettes());
-    assert_eq!(goals.len(), 604_800);
+    assert_eq!(goals.len(), count);
     for goal in goals {
         let to = image::write(&goal);
         checks::reachable(&mut caller, &from, &to, 0);

@@ -1,4 +1,4 @@
-//! Every pair of stores of the shapes with at most six slots, against a full search.
+//! Every pair of stores of the shapes with at most six slots, with blanks among the cassettes and without, against a full search.
 
 use halyard_model::search::{Search, every_store};
 use halyard_model::{Random, Store, image, rule};
@@ -38,15 +38,22 @@ fn compare_all_pairs(caller: &mut Caller, m: usize, h: usize, cassettes: &[u8]) 
     stores.len()
 }
 
-/// Every shape of `m` shafts with at most six slots, and every count of cassettes.
+/// No blank or one, by chance, since all cassettes differ with both, and every count above.
+fn counts_of_blanks(random: &mut Random, n: usize) -> impl Iterator<Item = usize> + use<> {
+    [random.below(2).min(n)].into_iter().chain(2..=n)
+}
+
+/// Every shape of `m` shafts with at most six slots, every count of cassettes, and of blanks among them.
 fn compare_shapes(m: usize, largest: usize) {
     let mut caller = Caller::new(m as u64, GUARD);
     let mut random = Random::new(m as u64);
     let mut most = 0;
     for h in 1..=SLOTS / m {
         for n in 0..=m * h {
-            let cassettes = random.cassettes(n);
-            most = most.max(compare_all_pairs(&mut caller, m, h, &cassettes));
+            for blanks in counts_of_blanks(&mut random, n) {
+                let cassettes = random.cassettes_with_blanks(n, blanks);
+                most = most.max(compare_all_pairs(&mut caller, m, h, &cassettes));
+            }
         }
     }
     assert_eq!(most, largest, "stores of the largest set");

@@ -1,10 +1,12 @@
 //! What the tool does for each of its commands.
 
 use crate::{depth, draw, played};
+use halyard_model::store::BLANK;
 use halyard_model::{Store, image, text};
 use std::fs;
 use std::io::Read;
 
+/// What the tool says of itself, with `{BLANK}` for the number of a blank.
 const HELP: &str = "\
 halyard: stores as text and as images, and lists played for a person to see
 
@@ -16,11 +18,12 @@ halyard: stores as text and as images, and lists played for a person to see
   halyard leads START GOAL LIST    say whether a list leads from start to goal
   halyard depth STORE CASSETTE…    draw a store, and say what is to be lifted away from each cassette
 
-TEXT is such as '3x2: [1 2] [] [3]': shafts, depth, the cassettes of each shaft bottom first.
+TEXT is such as '3x2: [1 2] [b] [3 b]': shafts, depth, the cassettes of each shaft bottom first.
+b is a blank carrier, which may stand more than once; its cassette number, {BLANK}, says the same.
 STORE, START and GOAL are an image file or TEXT. LIST is a file that has what the program 'plan'
 printed, or '-' for standard input; with --bytes it has a byte for each lift, as the C calls write it.
-The carries are how often each cassette of the store was carried, up to a lift that is refused; they
-add up to the lifts done.
+The carries are how often each cassette of the store was carried, blanks together, up to a lift that
+is refused; they add up to the lifts done. Of blanks 'depth' takes the one that is uncovered soonest.
 
 This tool is a convenience outside what is proved. It shares no code with the proved library, and
 nothing proves what it says. It ends with status 1 where something is wrong or refused.
@@ -39,6 +42,14 @@ impl From<String> for Said {
     }
 }
 
+fn help() -> String {
+    HELP.replace("{BLANK}", &BLANK.to_string())
+}
+
+fn not_understood() -> String {
+    format!("not understood\n\n{}", help())
+}
+
 /// Does what the words ask, or gives what is wrong with them.
 pub fn run(words: &[&str]) -> Result<Said, String> {
     let (options, words): (Vec<&str>, Vec<&str>) =
@@ -49,7 +60,7 @@ pub fn run(words: &[&str]) -> Result<Said, String> {
         _ => &[],
     };
     if options.iter().any(|option| !known.contains(option)) {
-        return Err(format!("not understood\n\n{HELP}"));
+        return Err(not_understood());
     }
     let bytes = options.contains(&"--bytes");
     match words[..] {
@@ -68,8 +79,8 @@ pub fn run(words: &[&str]) -> Result<Said, String> {
         ["depth", store, ref cassettes @ ..] if !cassettes.is_empty() => {
             depth::run(&read_store(store)?, cassettes)
         }
-        [] | ["help"] => Ok(HELP.to_string().into()),
-        _ => Err(format!("not understood\n\n{HELP}")),
+        [] | ["help"] => Ok(help().into()),
+        _ => Err(not_understood()),
     }
 }
 
@@ -118,7 +129,7 @@ pub fn meaning(number: u8) -> &'static str {
         2 => "the image ends before its last field",
         3 => "a height above the depth",
         4 => "a cassette number 0",
-        5 => "a cassette that stood earlier",
+        5 => "a cassette that stood earlier and is no blank",
         7 => "a padding bit set, or bytes after the padding",
         11 => "a shaft that is not there, or one shaft twice",
         13 => "the shaft left is empty",
@@ -206,14 +217,48 @@ mod tests {
     #[test]
     fn carries_rise_by_number() {
         let list = Scratch::holding("rise", b"lifts 2\n0>2\n1>2\n");
-        let store = "3x2: [255] [10] []";
+        let store = "3x2: [b] [10] []";
         let shown = prints(&["play", "--end", store, &list.0]);
-        assert!(shown.ends_with("\n\ntimes carried, 2 of 2 lifts done\n   10: 1\n  255: 1\n"));
+        assert!(shown.ends_with("\n\ntimes carried, 2 of 2 lifts done\n   10: 1\n    b: 1\n"));
         let none = Scratch::holding("none", b"lifts 0\n");
         let shown = prints(&["play", store, &none.0]);
-        assert!(shown.ends_with("\n\ntimes carried, 0 of 0 lifts done\n   10: 0\n  255: 0\n"));
+        assert!(shown.ends_with("\n\ntimes carried, 0 of 0 lifts done\n   10: 0\n    b: 0\n"));
         let shown = prints(&["play", "2x1: [] []", &none.0]);
         assert!(shown.ends_with("\n\ntimes carried, 0 of 0 lifts done\nno cassette\n"));
+    }
+
+    /// A line for all blanks, and a star only on the one carried.
+    #[test]
+    fn blanks_are_counted_together() {
+        let list = Scratch::holding("blanks", b"lifts 3\n0>1\n2>1\n1>0\n");
+        let shown = prints(&["play", "3x2: [b b] [] [1 b]", &list.0]);
+        let parts: Vec<&str> = shown.split("\n\n").collect();
+        assert!(parts[1].starts_with("lift 1 of 3: a blank from shaft 0 to shaft 1, row 1\n"));
+        assert!(parts[1].contains("row  1 |    b |   *b |    1 |"));
+        assert_eq!(parts[1].matches('*').count(), 1);
+        let carries = "times carried, 3 of 3 lifts done\n    1: 0\n    b: 3, all 3 together\n";
+        assert_eq!(parts[4], carries);
+    }
+
+    /// Whichever blank stands in a slot of the goal.
+    #[test]
+    fn a_list_that_leads_to_a_goal_with_blanks() {
+        let list = Scratch::holding("leads-blanks", b"lifts 2\n1>2\n0>1\n");
+        let said = prints(&["leads", "3x1: [b] [b] []", "3x1: [] [b] [b]", &list.0]);
+        assert_eq!(said, "2 lifts lead to the goal\n");
+    }
+
+    /// A second blank is read from an image and from a text, a second 254 from neither.
+    #[test]
+    fn images_with_blanks() {
+        let blanks = "2x2: [b b] [b]";
+        assert_eq!(prints(&["image", blanks]), "01 11 7f ff 87 fc\n");
+        let file = Scratch::holding("blank-image", &[0x01, 0x11, 0x7F, 0xFF, 0x87, 0xFC]);
+        assert_eq!(prints(&["text", &file.0]), format!("{blanks}\n"));
+        let file = Scratch::holding("twice", &[0x01, 0x11, 0x7F, 0x7F, 0x00]);
+        let wrong = run(&["text", &file.0]).unwrap_err();
+        assert!(wrong.ends_with("refused 5, a cassette that stood earlier and is no blank"));
+        assert!(run(&["image", "2x2: [254 254] []"]).is_err());
     }
 
     #[test]
@@ -247,7 +292,8 @@ mod tests {
 
     #[test]
     fn words_that_say_nothing() {
-        assert_eq!(prints(&["help"]), HELP);
+        let blank = format!("its cassette number, {BLANK}, says the same");
+        assert!(prints(&["help"]).contains(&blank));
         let unknown = [
             &["fly"][..],
             &["show"],

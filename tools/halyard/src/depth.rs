@@ -2,7 +2,10 @@
 
 use crate::commands::{Said, meaning};
 use crate::draw;
-use halyard_model::{Store, uncover};
+use halyard_model::Store;
+use halyard_model::store::BLANK;
+use halyard_model::text::{self, BLANK_WORD};
+use halyard_model::uncover::{self, Place};
 
 /// The store with the cassettes named, and a line for each of them.
 pub fn run(store: &Store, words: &[&str]) -> Result<Said, String> {
@@ -10,10 +13,7 @@ pub fn run(store: &Store, words: &[&str]) -> Result<Said, String> {
         .iter()
         .map(|word| cassette(word))
         .collect::<Result<Vec<u16>, _>>()?;
-    let marked: Vec<u8> = named
-        .iter()
-        .filter_map(|&it| u8::try_from(it).ok())
-        .collect();
+    let marked: Vec<Place> = named.iter().flat_map(|&it| marked(store, it)).collect();
     let lines: String = named.iter().map(|&it| line(store, it)).collect();
     let fails = |it: &&u16| uncover::uncover(store, **it).is_err();
     let failed = named.iter().filter(fails).count();
@@ -24,8 +24,19 @@ pub fn run(store: &Store, words: &[&str]) -> Result<Said, String> {
 }
 
 fn cassette(word: &str) -> Result<u16, String> {
-    let wrong = |_| format!("'{word}' is no number from 0 to 65535");
+    if word == BLANK_WORD {
+        return Ok(BLANK.into());
+    }
+    let wrong = |_| format!("'{word}' is no number from 0 to 65535, nor {BLANK_WORD}");
     word.parse().map_err(wrong)
+}
+
+/// The place that a number is nearest in, or all its places where it can't be uncovered.
+fn marked(store: &Store, cassette: u16) -> Vec<Place> {
+    match uncover::nearest(store, cassette) {
+        Some(place) => vec![place],
+        None => uncover::places(store, cassette).collect(),
+    }
 }
 
 /// A cassette and its answer: what is to be lifted away, from the top down, or why that can't be.
@@ -37,26 +48,36 @@ fn line(store: &Store, cassette: u16) -> String {
         Err(17) => format!("17, {}: {}", meaning(17), no_room(store, cassette)),
         Err(number) => format!("{number}, {}", meaning(number)),
     };
-    format!("{cassette:>5}: {answer}\n")
+    let count = uncover::places(store, cassette).count();
+    let nearest = uncover::nearest(store, cassette).filter(|_| count > 1);
+    let which = nearest.map_or(String::new(), |_| format!(", the nearest of {count}"));
+    format!("{:>5}: {answer}{which}\n", word(cassette))
+}
+
+/// A number as it was named, or the word for a blank.
+fn word(cassette: u16) -> String {
+    u8::try_from(cassette).map_or(cassette.to_string(), text::write_cassette)
 }
 
 /// What stands on a cassette, from the top down.
 fn above(store: &Store, cassette: u16) -> String {
-    let (shaft, row) = uncover::place(store, cassette).expect("a cassette of the store");
+    let (shaft, row) = uncover::nearest(store, cassette).expect("one that can be uncovered");
     let words: Vec<String> = store.shafts[shaft][row..]
         .iter()
         .rev()
-        .map(u8::to_string)
+        .map(|&it| text::write_cassette(it))
         .collect();
     words.join(", ")
 }
 
-/// How many stand on a cassette, and how many the other shafts have room for.
+/// How many stand on a cassette, and how many the other shafts have room for; of a number that stands more than once, under which row.
 fn no_room(store: &Store, cassette: u16) -> String {
-    let (shaft, row) = uncover::place(store, cassette).expect("a cassette of the store");
-    let height = store.shafts[shaft].len();
-    let elsewhere = store.e() - (store.depth - height);
-    let above = height - row;
+    let places: Vec<Place> = uncover::places(store, cassette).collect();
+    let [place] = places[..] else {
+        return format!("all {} are below row {}", places.len(), store.floor());
+    };
+    let above = uncover::above(store, place);
+    let elsewhere = store.e() - (store.depth - store.shafts[place.0].len());
     match store.m() {
         1 => format!("{above} on it, and no other shaft"),
         _ => format!("{above} on it, and room for {elsewhere} on the other shafts"),
@@ -92,6 +113,56 @@ shaft       0      1      2
         assert_eq!(said.wrong.as_deref(), Some("4 of 7 orders fail"));
     }
 
+    /// Only the nearest blank is marked, and what stands on it named.
+    #[test]
+    fn the_nearest_blank() {
+        let store = text::read("3x4: [b 1 2] [3 b 4] [b b]").unwrap();
+        let said = run(&store, &["b", &BLANK.to_string(), "4"]).unwrap();
+        let shown = format!(
+            "\
+row  4 |      |      |      |
+row  3 |    2 |   *4 |      |
+row  2 |    1 |    b |   *b |
+row  1 |    b |    3 |    b |
+       +------+------+------+
+shaft       0      1      2
+b is a blank, cassette number {BLANK}
+
+    b: on top, the nearest of 4
+    b: on top, the nearest of 4
+    4: on top
+"
+        );
+        assert_eq!(said.text, shown);
+        assert_eq!(said.wrong, None);
+        let store = text::read("3x4: [b b 2] [3 b 4 5] []").unwrap();
+        let said = run(&store, &["b", "3"]).unwrap();
+        assert!(
+            said.text
+                .ends_with("\n    b: 1 lift, of 2, the nearest of 3\n    3: 3 lifts, of 5, 4, b\n")
+        );
+    }
+
+    /// Two blanks under the rows that can be uncovered; one alone, as any cassette; and none.
+    #[test]
+    fn blanks_that_stay_covered() {
+        for (store, line) in [
+            ("3x2: [b 1] [b 2] [3 4]", "all 2 are below row 2"),
+            (
+                "3x2: [b 1] [5 2] [3 4]",
+                "1 on it, and room for 0 on the other shafts",
+            ),
+        ] {
+            let said = run(&text::read(store).unwrap(), &["b"]).unwrap();
+            let wanted = format!("\n    b: 17, no list of lifts uncovers it: {line}\n");
+            assert!(said.text.ends_with(&wanted), "{}", said.text);
+            assert_eq!(said.text.matches('*').count(), store.matches('b').count());
+            assert!(said.wrong.is_some());
+        }
+        let said = run(&text::read("1x1: [1]").unwrap(), &["b"]).unwrap();
+        assert!(said.text.ends_with("\n    b: 16, it is not in the store\n"));
+    }
+
     #[test]
     fn one_shaft() {
         let said = run(&text::read("1x3: [1 2]").unwrap(), &["1"]).unwrap();
@@ -102,7 +173,7 @@ shaft       0      1      2
     #[test]
     fn words_that_are_no_cassette() {
         let store = text::read("1x1: [1]").unwrap();
-        for word in ["", "x", "-1", "65536", "1.5"] {
+        for word in ["", "x", "-1", "65536", "1.5", "B", "bb"] {
             assert!(run(&store, &[word]).is_err(), "{word}");
         }
     }

@@ -1,10 +1,13 @@
 //! Stores drawn with their shafts upright.
 
 use halyard_model::Store;
+use halyard_model::store::BLANK;
+use halyard_model::text::{self, BLANK_WORD};
+use halyard_model::uncover::Place;
 
-/// The rows from the top down, and the shafts' numbers below. The cassettes `marked` have a star.
-pub fn store(store: &Store, marked: &[u8]) -> String {
-    let mut lines: Vec<String> = (0..store.depth)
+/// The rows from the top down, the shafts' numbers below, and what a blank is drawn as, if there is one. The places `marked` have a star.
+pub fn store(store: &Store, marked: &[Place]) -> String {
+    let mut lines: Vec<String> = (1..=store.depth)
         .rev()
         .map(|row| draw_row(store, row, marked))
         .collect();
@@ -13,40 +16,59 @@ pub fn store(store: &Store, marked: &[u8]) -> String {
         .map(|shaft| format!("{shaft:>5}  "))
         .collect();
     lines.push(format!("shaft   {}", numbers.trim_end()));
+    if store.blanks() > 0 {
+        lines.push(format!("{BLANK_WORD} is a blank, cassette number {BLANK}"));
+    }
     lines.join("\n") + "\n"
 }
 
-fn draw_row(store: &Store, row: usize, marked: &[u8]) -> String {
-    let slots: String = store
-        .shafts
-        .iter()
-        .map(|shaft| format!("{:>5} |", draw_slot(shaft.get(row), marked)))
+fn draw_row(store: &Store, row: usize, marked: &[Place]) -> String {
+    let slots: String = (0..store.m())
+        .map(|shaft| format!("{:>5} |", draw_slot(store, (shaft, row), marked)))
         .collect();
-    format!("row {:>2} |{slots}", row + 1)
+    format!("row {row:>2} |{slots}")
 }
 
-fn draw_slot(cassette: Option<&u8>, marked: &[u8]) -> String {
-    match cassette {
-        Some(cassette) if marked.contains(cassette) => format!("*{cassette}"),
-        Some(cassette) => cassette.to_string(),
+fn draw_slot(store: &Store, place: Place, marked: &[Place]) -> String {
+    let (shaft, row) = place;
+    let star = if marked.contains(&place) { "*" } else { "" };
+    match store.shafts[shaft].get(row - 1) {
+        Some(&cassette) => format!("{star}{}", text::write_cassette(cassette)),
         None => String::new(),
     }
 }
 
 #[cfg(test)]
 mod tests {
+    use halyard_model::store::BLANK;
     use halyard_model::text;
 
     #[test]
     fn shafts_stand_upright() {
-        let store = text::read("3x2: [1 2] [] [255]").unwrap();
+        let store = text::read("3x2: [1 2] [] [254]").unwrap();
         let drawn = "\
 row  2 |    2 |      |      |
-row  1 |    1 |      | *255 |
+row  1 |    1 |      | *254 |
        +------+------+------+
 shaft       0      1      2
 ";
-        assert_eq!(super::store(&store, &[255]), drawn);
+        assert_eq!(super::store(&store, &[(2, 1)]), drawn);
         assert_eq!(super::store(&store, &[]), drawn.replace('*', " "));
+    }
+
+    /// Of two blanks the one in the place marked has the star.
+    #[test]
+    fn blanks() {
+        let store = text::read("2x2: [1 b] [b]").unwrap();
+        let drawn = format!(
+            "\
+row  2 |    b |      |
+row  1 |    1 |   *b |
+       +------+------+
+shaft       0      1
+b is a blank, cassette number {BLANK}
+"
+        );
+        assert_eq!(super::store(&store, &[(1, 1)]), drawn);
     }
 }

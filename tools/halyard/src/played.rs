@@ -3,6 +3,7 @@
 use crate::commands::{Said, meaning};
 use crate::draw;
 use halyard_model::play::{self, Carried, Replayed};
+use halyard_model::store::BLANK;
 use halyard_model::{Store, text};
 
 /// The store drawn before and after each lift, or only at the end, up to a lift that is refused, and then the carries.
@@ -37,18 +38,30 @@ fn draw_lift(store: &Store, list: &[u8], done: usize, carried: Carried) -> Strin
     let (left, entered) = play::shafts_of(list[done]);
     let Carried { cassette, row } = carried;
     format!(
-        "lift {} of {}: {cassette} from shaft {left} to shaft {entered}, row {row}\n{}",
+        "lift {} of {}: {} from shaft {left} to shaft {entered}, row {row}\n{}",
         done + 1,
         list.len(),
-        draw::store(store, &[cassette])
+        named(cassette),
+        draw::store(store, &[(entered, row)])
     )
 }
 
-/// How many lifts were done, and how often each cassette of the store was carried by them, a line for each, rising by number.
+/// A cassette in a sentence.
+fn named(cassette: u8) -> String {
+    match cassette {
+        BLANK => "a blank".into(),
+        _ => cassette.to_string(),
+    }
+}
+
+/// How many lifts were done, and how often each cassette of the store was carried by them, a line for each, rising by number, and one for all blanks.
 fn carries(end: &Replayed, list: &[u8]) -> String {
-    let times = |cassette: u8| end.carries[usize::from(cassette)];
-    let line = |cassette| format!("{cassette:>5}: {}\n", times(cassette));
-    let lines: String = end.store.sorted().into_iter().map(line).collect();
+    let mut numbers = end.store.sorted();
+    numbers.dedup();
+    let lines: String = numbers
+        .into_iter()
+        .map(|it| carries_line(end, it))
+        .collect();
     let lines = if lines.is_empty() {
         "no cassette\n".to_string()
     } else {
@@ -59,6 +72,16 @@ fn carries(end: &Replayed, list: &[u8]) -> String {
         end.count,
         list.len()
     )
+}
+
+/// How often the cassettes of a number were carried.
+fn carries_line(end: &Replayed, cassette: u8) -> String {
+    let times = end.carries[usize::from(cassette)];
+    let word = text::write_cassette(cassette);
+    match (cassette, end.store.blanks()) {
+        (BLANK, 2..) => format!("{word:>5}: {times}, all {} together\n", end.store.blanks()),
+        _ => format!("{word:>5}: {times}\n"),
+    }
 }
 
 /// What to say of a replay that stopped.

@@ -1,0 +1,44 @@
+-- The answer by the places that show a number, in some of the shafts (request 5/13: "the fewest lifts that uncover some blank"): a place is cleared by as many lifts as
+-- cassettes stand on it, unless it lies too low, and the answer is the least over the places.
+use mathlib.Core.Path.{_≡_}
+use Prim.Native.Nat.{ℕ, _+_, _≤_, _<_, min}
+use Rattle.store.specs.declared.Store.{Store}
+use Rattle.store.specs.Slots.{depth, height, slot, emptyCount}
+use Rattle.uncovering.specs.declared.Uncovering.{Uncovering}
+use Rattle.uncovering.specs.declared.Uncovering.the-variants.{After, Absent, Buried}
+
+-- A row of a shaft, one of those that P picks, that shows c.
+pub record Place (P : ℕ → Type 0) (s : Store) (c : ℕ) : Type 0 where
+  pub shaft : ℕ
+  pub row : ℕ
+  pub picked : P shaft
+  pub from-one : 0 < row
+  pub held : row ≤ height s shaft
+  pub shows : slot s shaft row ≡ c
+
+-- the place is no lower than row d − e of its shaft of depth d
+abbrev pub HighEnough : {P : ℕ → Type 0} {s : Store} {c : ℕ} → Place P s c → Type 0
+HighEnough {s = s} w = depth s (w .shaft) ≤ w .row + emptyCount s
+
+-- k cassettes stand on one place that is high enough, and no fewer on any other.
+pub record Nearest (P : ℕ → Type 0) (s : Store) (c k : ℕ) : Type 0 where
+  pub place : Place P s c
+  pub high : HighEnough place
+  pub above : k + place .row ≡ height s (place .shaft)
+  pub least : (w : Place P s c) → HighEnough w → k + w .row ≤ height s (w .shaft)
+
+-- what an answer says of the places
+abbrev pub NearestIs : (ℕ → Type 0) → Store → ℕ → Uncovering → Type 0
+NearestIs P s c (After k) = Nearest P s c k
+NearestIs P s c Absent = Place P s c → ⊥
+NearestIs P s c Buried = Place P s c × ((w : Place P s c) → HighEnough w → ⊥)
+
+-- the nearer of two answers: fewer lifts before more, some before none, and a number that stands too low before one that stands nowhere
+abbrev pub nearerOf : Uncovering → Uncovering → Uncovering
+nearerOf Absent b = b
+nearerOf Buried Absent = Buried
+nearerOf Buried Buried = Buried
+nearerOf Buried (After k) = After k
+nearerOf (After j) Absent = After j
+nearerOf (After j) Buried = After j
+nearerOf (After j) (After k) = After (min j k)
