@@ -11,8 +11,8 @@ use lib.ListN.{length}
 use Rattle.stacks.specs.Count.{count, one}
 use Rattle.stacks.proofs.Counts.{count-last}
 use Rattle.marks.specs.declared.Taken.the-variants.{Added, NumberZero, Twice}
-use Rattle.marks.specs.Cassettes.{numbers, blank, isBlank, given, cassetteFault}
-use Rattle.marks.specs.Marking.{markWords, noMarks, marked, withMark, withMarks, others, marksOf, markCount, Marked}
+use Rattle.marks.specs.Cassettes.{numbers, blank, isBlank, Once, given, cassetteFault}
+use Rattle.marks.specs.Marking.{markWords, noMarks, marked, withMark, withCassette, withMarks, others, marksOf, markCount, Marked}
 use Rattle.marks.specs.Taking.{TakenIs}
 use Rattle.marks.proofs.Faulted.{first-none, first-either, given-either, given-none}
 use Rattle.marks.proofs.MarkLaws.{with-more, marked-exactly, count-of}
@@ -44,25 +44,22 @@ pub mark-is : (words l : List ℕ) (c : ℕ) → Marked words l → c < numbers 
 unfolding marksOf
 mark-is words l c m h = ap (λ (v : List ℕ). marked v c) (m .marks) ∙ marked-exactly markWords (others l) c h
 
--- and that of one that is no blank
-module _ (words l : List ℕ) (c : ℕ) (m : Marked words l) (h : c < numbers) (e : isBlank c ≡ false) where
-  -- a marked cassette stands in the list
-  mark-found : eqb (marked words c) 1 ≡ true → 0 < count c l
-  mark-found t = omega (arith, mark-is words l c m h, others-count c e l, eqb-true (marked words c) 1 t)
+module _ (words l : List ℕ) (c : ℕ) (m : Marked words l) (h : c < numbers) where
+  -- a marked cassette stands in the list, and is no blank
+  mark-found : eqb (marked words c) 1 ≡ true → (isBlank c ≡ false) × (0 < count c l)
+  mark-found t =
+      let n : 0 < count c (others l) = omega (arith, mark-is words l c m h, eqb-true (marked words c) 1 t) in
+      (no-other-blank c (λ e. omega (arith, ap (λ (d : ℕ). count d (others l)) e, no-blank l)), omega (arith, others-fewer c l))
 
-  -- a cassette without a mark does not
-  mark-missing : eqb (marked words c) 1 ≡ false → count c l ≡ 0
-  mark-missing t = let n : marked words c ≡ 1 → ⊥ = eqb-false (marked words c) 1 t in omega (arith, mark-is words l c m h, others-count c e l)
+  -- a cassette without a mark does not, or is a blank
+  mark-missing : isBlank c ≡ false → eqb (marked words c) 1 ≡ false → count c l ≡ 0
+  mark-missing e t = let n : marked words c ≡ 1 → ⊥ = eqb-false (marked words c) 1 t in omega (arith, mark-is words l c m h, others-count c e l)
 
 pub nothing-marked : Marked noMarks []
 unfolding marksOf withMarks others count
 nothing-marked = record { marks = refl; below = λ c h. absurd (omega arith); once = λ c r. omega arith }
 
--- no number but the blank stands twice in a list
-abbrev pub Once : List ℕ → Type 0
-Once l = (c : ℕ) → isBlank c ≡ false → count c l ≤ 1
-
--- and so in the list with one more, that stood nowhere unless it is a blank
+-- one cassette more stands once too, if it stood nowhere or is a blank
 pub once-more : (l : List ℕ) (x : ℕ) → Once l → (isBlank x ≡ false → count x l ≡ 0) → Once (l ++ (x ∷ []))
 once-more l x p e c r =
     rw (count-last c l x)
@@ -73,7 +70,7 @@ once-more l x p e c r =
 
 -- the marks of the list with one more
 marked-more : (words l : List ℕ) (c : ℕ) → Marked words l → c < numbers → (isBlank c ≡ false → count c l ≡ 0)
-    → Marked (cond (isBlank c) words (withMark words c)) (l ++ (c ∷ []))
+    → Marked (withCassette words c) (l ++ (c ∷ []))
 unfolding marksOf
 marked-more words l c m h z = record {
   marks = go (isBlank c) ∙ ap (withMarks noMarks) (sym (others-last l c));
@@ -100,33 +97,26 @@ module _ (words : List ℕ) (c : ℕ) where
   }
 
   module _ (n : c ≡ 0 → ⊥) (h : c < numbers) where
-    -- a cassette that has no fault: a blank, or one that has no mark
-    added : {words′ : List ℕ} → words′ ≡ cond (isBlank c) words (withMark words c) → (not (isBlank c) && eqb (marked words c) 1) ≡ false → TakenIs words c words′ Added
-    added e t =
-        let z : (before : List ℕ) → Marked words before → isBlank c ≡ false → count c before ≡ 0 =
-        λ before m r. mark-missing words before c m h r (sym (ap (λ (b : Bool). not b && eqb (marked words c) 1) r) ∙ t) in
-        rw e (record {
+    pub twice-is : eqb (marked words c) 1 ≡ true → TakenIs words c words Twice
+    unfolding cassetteFault
+    twice-is t = record {
+      number = sym (simp (ne-eqb c 0 n, t));
+      words-are = refl;
+      fault = λ before m.
+          let p = mark-found words before c m h t in
+          sym (simp (ne-eqb c 0 n, p .0, lt-ltb 0 (count c before) (p .1)));
+      marks = λ before m. refl;
+    }
+
+    pub added-is : eqb (marked words c) 1 ≡ false → TakenIs words c (withCassette words c) Added
+    added-is t =
+        let z : (before : List ℕ) → Marked words before → isBlank c ≡ false → count c before ≡ 0 = λ before m b. mark-missing words before c m h b t in
+        record {
           number = sym (simp (ne-eqb c 0 n, t));
           words-are = refl;
           fault = λ before m. sym (cassette-taken before c n (z before m));
           marks = λ before m. marked-more words before c m h (z before m);
-        })
-
-    pub blank-is : isBlank c ≡ true → TakenIs words c words Added
-    blank-is b = added (simp b) (simp b)
-
-    module _ (b : isBlank c ≡ false) where
-      pub twice-is : eqb (marked words c) 1 ≡ true → TakenIs words c words Twice
-      unfolding cassetteFault
-      twice-is t = record {
-        number = sym (simp (ne-eqb c 0 n, b, t));
-        words-are = refl;
-        fault = λ before m. sym (simp (ne-eqb c 0 n, b, lt-ltb 0 (count c before) (mark-found words before c m h b t)));
-        marks = λ before m. refl;
-      }
-
-      pub added-is : eqb (marked words c) 1 ≡ false → TakenIs words c (withMark words c) Added
-      added-is t = added (simp b) (simp (b, t))
+        }
 
 -- "n is the marks of the others plus the count of blanks" (request 5/13)
 pub marks-counted : (words l : List ℕ) → Marked words l → markCount words + count blank l ≡ length l

@@ -1,7 +1,8 @@
 -- Cassette numbers (document 01, "The store"), and the fault of one more cassette ("Refused because of the input"). 0 is no fault.
 use mathlib.Core.Bool.{Bool, true, false, not, _&&_}
 use mathlib.Core.List.{List}
-use Prim.Native.Nat.{ℕ, zero, suc}
+use mathlib.Core.Path.{_≡_}
+use Prim.Native.Nat.{ℕ, zero, suc, _≤_}
 use lib.Dec.{ltb, eqb}
 use Rattle.stacks.specs.Count.{count}
 
@@ -15,6 +16,10 @@ blank = 255
 
 unfoldable pub isBlank : ℕ → Bool
 isBlank c = eqb c blank
+
+-- no number but the blank stands twice in a list
+abbrev pub Once : List ℕ → Type 0
+Once l = (c : ℕ) → isBlank c ≡ false → count c l ≤ 1
 
 -- the number k where the test holds, else none
 abbrev pub given : Bool → ℕ → ℕ

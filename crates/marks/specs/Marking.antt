@@ -1,14 +1,14 @@
 -- The cassettes present that are no blanks, as a set of marks: words of 64 bits, bit c % 64 of word c / 64 for cassette c (document 01, "The store":
 -- "kept as a set of marks"; request 5/13: "n is the marks of the others plus the count of blanks").
-use mathlib.Core.Bool.{false, cond}
+use mathlib.Core.Bool.{cond}
 use mathlib.Core.List.{List, [], _∷_}
 use mathlib.Core.Path.{_≡_}
-use Prim.Native.Nat.{ℕ, _+_, _/_, _%_, _^_, _≤_, _<_}
+use Prim.Native.Nat.{ℕ, _+_, _/_, _%_, _^_, _<_}
 use lib.ListN.{getD, set, replicate}
 use lib.Bits.{bitOr}
 use lib.Count.{ones}
 use Rattle.stacks.specs.Count.{count}
-use Rattle.marks.specs.Cassettes.{numbers, isBlank}
+use Rattle.marks.specs.Cassettes.{numbers, isBlank, Once}
 
 -- how many words hold a mark for every number
 abbrev pub markWords : ℕ
@@ -24,6 +24,10 @@ marked w c = getD w (c / 64) 0 / 2 ^ (c % 64) % 2
 -- the marks with cassette c among them
 unfoldable pub withMark : List ℕ → ℕ → List ℕ
 withMark w c = set w (c / 64) (bitOr (getD w (c / 64) 0) (2 ^ (c % 64)))
+
+-- the marks after a cassette is taken: a blank has none
+abbrev pub withCassette : List ℕ → ℕ → List ℕ
+withCassette w c = cond (isBlank c) w (withMark w c)
 
 -- the marks w with each cassette of a list added
 unfoldable pub withMarks : List ℕ → List ℕ → List ℕ
@@ -50,4 +54,4 @@ markCount (w ∷ l) = ones w + markCount l
 pub record Marked (words l : List ℕ) : Type 0 where
   pub marks : words ≡ marksOf l
   pub below : (c : ℕ) → 0 < count c l → c < numbers
-  pub once : (c : ℕ) → isBlank c ≡ false → count c l ≤ 1
+  pub once : Once l

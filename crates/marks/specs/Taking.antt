@@ -1,12 +1,11 @@
 -- What taking one more cassette promises.
-use mathlib.Core.Bool.{not, _&&_, cond}
 use mathlib.Core.List.{List, [], _∷_, _++_}
 use mathlib.Core.Path.{_≡_}
 use Prim.Native.Nat.{ℕ}
 use lib.Dec.{eqb}
 use Rattle.marks.specs.declared.Taken.{Taken}
-use Rattle.marks.specs.Cassettes.{isBlank, given, first, cassetteFault}
-use Rattle.marks.specs.Marking.{marked, withMark, Marked}
+use Rattle.marks.specs.Cassettes.{given, first, cassetteFault}
+use Rattle.marks.specs.Marking.{marked, withCassette, Marked}
 
 abbrev pub takenNumber : Taken → ℕ
 takenNumber Taken.Added = 0
@@ -21,11 +20,10 @@ MarksAfter before words words′ c Taken.Twice = words′ ≡ words
 
 -- the fault by the mark of the cassette, and the words after it
 abbrev pub markFault : List ℕ → ℕ → ℕ
-markFault words c = first (given (eqb c 0) 4) (given (not (isBlank c) && eqb (marked words c) 1) 5)
+markFault words c = first (given (eqb c 0) 4) (given (eqb (marked words c) 1) 5)
 
--- a blank has no mark
 abbrev pub wordsAfter : List ℕ → ℕ → Taken → List ℕ
-wordsAfter words c Taken.Added = cond (isBlank c) words (withMark words c)
+wordsAfter words c Taken.Added = withCassette words c
 wordsAfter words c Taken.NumberZero = words
 wordsAfter words c Taken.Twice = words
 

@@ -7,7 +7,7 @@ ghost use lib.Dec.{eqb};
 ghost use lib.ListN.{getD};
 ghost use Rattle.stacks.specs.Deciding.{Decides};
 ghost use Rattle.marks.specs.Cassettes.{blank, isBlank};
-ghost use Rattle.marks.specs.Marking.{noMarks, marked, withMark, markCount};
+ghost use Rattle.marks.specs.Marking.{noMarks, marked, withCassette, markCount};
 ghost use Rattle.marks.specs.Taking.{TakenIs};
 
 // A cassette, by its number. "0 marks an empty slot and nothing else."
@@ -52,13 +52,14 @@ fn has(words: &Words, c: Cassette) -> bool
     (words[i] >> k) & 1 == 1
 }
 
-// Marks a cassette.
+// Marks a cassette, unless it is a blank, which has no mark. With no branch: where blanks stand can't be foretold.
 fn mark(words: &mut Words, c: Cassette)
-    ensures { λ r. ⌜ now (words .exit) ≡ withMark (now (words .entry)) c ⌝ }
+    ensures { λ r. ⌜ now (words .exit) ≡ withCassette (now (words .entry)) c ⌝ }
 {
     let i = (c >> 6) as usize;
     let k = (c & 63) as u64;
-    words[i] = word(words, i) | (1u64 << k);
+    let one = !is_blank(c) as u64;
+    words[i] = word(words, i) | (one << k);
 }
 
 // Whether one cassette more was added to others, or why not: 4, 5.
@@ -68,15 +69,12 @@ pub enum Taken {
     Twice,
 }
 
-// Takes one cassette more: its fault, or the marks with it. A blank has none.
+// Takes one cassette more: its fault, or the marks with it.
 pub fn take(words: &mut Words, c: Cassette) -> Taken
     ensures { λ r. ⌜ TakenIs (now (words .entry)) c (now (words .exit)) r ⌝ }
 {
     if c == 0 {
         return Taken::NumberZero;
-    }
-    if is_blank(c) {
-        return Taken::Added;
     }
     if has(words, c) {
         return Taken::Twice;

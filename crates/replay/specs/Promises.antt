@@ -19,7 +19,8 @@ use Rattle.replay.specs.Replaying.{Outcome, timesCarried}
 unfoldable pub carriesOf : ℕ → List ℕ → List ℕ → ℕ
 carriesOf c slots carries = sum slotCount (λ i. given (eqb c (getD slots i 0)) (getD carries i 0))
 
--- A replay came to an outcome. Its counts say for every cassette how often it was carried.
+-- A replay came to an outcome. Its counts say for every cassette how often it was carried: "Carries of blanks are counted together" (request 5/13), and how they
+-- are spread over the slots that show one is left free.
 pub record ReplayIs (o : Outcome) (r : Replayed) : Type 0 where
   pub store : r .store ≡ o .reached
   pub count : r .count ≡ o .count

@@ -11,9 +11,9 @@ use lib.ListN.{getD}
 use Rattle.stacks.specs.Count.{count, one}
 use Rattle.stacks.proofs.Counts.{count-append, count-last, Below}
 use Rattle.stacks.proofs.Sums.{sum-none}
-use Rattle.marks.specs.Cassettes.{numbers, isBlank, cassetteFault}
+use Rattle.marks.specs.Cassettes.{numbers, isBlank, Once, cassetteFault}
 use Rattle.marks.proofs.Faulted.{first-none}
-use Rattle.marks.proofs.Takes.{taken-cassette, cassette-taken, Once, once-more}
+use Rattle.marks.proofs.Takes.{taken-cassette, cassette-taken, once-more}
 use Rattle.lifts.specs.Lifting.{shown}
 use Rattle.store.specs.declared.Store.{Store}
 use Rattle.store.specs.Slots.{depth, height, slot, upward, cassettesBelow, cassettes}

@@ -3,12 +3,11 @@
 use mathlib.Core.Bool.{Bool, cond}
 use mathlib.Core.List.{List, [], _++_}
 use mathlib.Core.Path.{_≡_}
-use Prim.Native.Nat.{ℕ, zero, suc, _+_, _-_}
+use Prim.Native.Nat.{ℕ, zero, suc, _-_}
 use lib.ListN.{length}
 use Rattle.stacks.specs.Count.{sum, greatest}
 use Rattle.lifts.specs.Lifting.{heightIn, shown}
-use Rattle.depths.specs.Depths.{depthBy, spaceFor}
-use Rattle.depths.specs.Depths.{slotThere}
+use Rattle.depths.specs.Depths.{depthBy, spaceFor, slotThere}
 use Rattle.rows.specs.Rows.{rowsUp, rowsDown}
 use Rattle.store.specs.declared.Store.{Store}
 

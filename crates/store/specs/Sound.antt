@@ -1,11 +1,9 @@
 -- What acceptance says of a store, slot by slot (document 000, Definition 3.1): "no empty slot lies under a cassette", no cassette but the blank stands
 -- twice (request 5/13), and nothing stands elsewhere.
-use mathlib.Core.Bool.{false}
 use mathlib.Core.Path.{_≡_}
 use Prim.Native.Nat.{ℕ, suc, _≤_, _<_}
 use lib.ListN.{length, getD}
-use Rattle.stacks.specs.Count.{count}
-use Rattle.marks.specs.Cassettes.{numbers, isBlank}
+use Rattle.marks.specs.Cassettes.{numbers, Once}
 use Rattle.lifts.specs.Lifting.{mostShafts, mostRows, slotCount}
 use Rattle.store.specs.declared.Store.{Store}
 use Rattle.store.specs.Slots.{depth, height, slot, cassettes}
@@ -27,4 +25,4 @@ pub record Sound (s : Store) : Type 0 where
   pub some-shaft : 0 < s .m
   pub some-row : (x : ℕ) → x < s .m → 0 < depth s x
   pub no-gap : (x k : ℕ) → k < height s x → slot s x (suc k) ≡ 0 → ⊥
-  pub once : (c : ℕ) → isBlank c ≡ false → count c (cassettes s) ≤ 1
+  pub once : Once (cassettes s)

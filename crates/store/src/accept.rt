@@ -59,7 +59,7 @@ fn refused(f: Fault) -> Checked
 }
 
 impl Store {
-    // The first fault of a store given as a value, or that it is accepted, with the marks of its cassettes.
+    // The first fault of a store given as a value, or that it is accepted, with the marks of its cassettes but blanks.
     pub fn check(self) -> Checked
         ensures { λ r. ⌜ CheckIs (storeFault self) (cassettes self) r ⌝ }
     {

@@ -32,7 +32,7 @@ pub enum Verdict {
     Refused(Fault),
 }
 
-// A checked store's verdict, and the marks of its cassettes, none where it is refused.
+// A checked store's verdict, and the marks of its cassettes but blanks, none where it is refused.
 pub struct Checked {
     pub verdict: Verdict,
     pub marks: Words,

@@ -19,6 +19,7 @@ use Rattle.store.proofs.Rows.{stack-length}
 use Rattle.store.proofs.Views.{Moved, lift-moves, at-and-elsewhere, kept-rows, lifted-shaped}
 use Rattle.reach.proofs.Agree.{shaped-within, empties-agree}
 use Rattle.reach.proofs.Lasting.{leads-count}
+use Rattle.uncovering.specs.Nearest.{Place, Under}
 use Rattle.uncovering.specs.Uncovering.{Uncovered}
 
 -- what is empty above a shaft is part of e
@@ -31,9 +32,9 @@ unfolding emptyCount lifted
 lifted-empty s a b p q =
     let e : cassetteCount (lifted s a b) ≡ cassetteCount s = leads-count p (lift-then s (lifted s a b) (lift a b) [] (omega (arith, q .entered-below, p .shafts)) q ended) in rw e
 
--- Every slot that shows c, but those too low, has k cassettes above it at least.
-abbrev pub Under : Store → ℕ → ℕ → Type 0
-Under s c k = (x y : ℕ) → x < s .m → 0 < y → y ≤ height s x → slot s x y ≡ c → depth s x ≤ y + emptyCount s → k + y ≤ height s x
+-- a place of the store that shows c
+abbrev placed : (s : Store) {c : ℕ} (x y : ℕ) → x < s .m → 0 < y → y ≤ height s x → slot s x y ≡ c → Place 0 (s .m) s c
+placed s x y h i j e = record { shaft = x; row = y; from = omega arith; below = h; from-one = i; held = j; shows = e }
 
 module _ (s : Store) (a b : ℕ) (p : Shaped s) (q : Allowed s a b) where
   abbrev t : Store
@@ -64,17 +65,23 @@ module _ (s : Store) (a b : ℕ) (p : Shaped s) (q : Allowed s a b) where
       ])
       (λ x m n k i. kept x k (omega (arith, moved .others x m n)) i)
 
-  lift-under : (c k : ℕ) → Under s c (suc k) → Under t c k
+  lift-under : (c k : ℕ) → Under 0 (s .m) s c (suc k) → Under 0 (t .m) t c k
   unfolding lifted
-  lift-under c k u x zero h i j e f = absurd (omega arith)
-  lift-under c k u x (suc y) h i j e f = go (shown-after x y j)
+  lift-under c k u w i = go (w .row) (w .from-one) (w .held) (w .shows) i
     where
-      go : Shown x (suc y) → k + suc y ≤ height t x
-      go (before l r) = omega (arith, lower-by-one x, u x (suc y) h i l (sym r ∙ e) (omega (arith, lifted-empty s a b p q)))
-      go (lifted-here r) = absurd (omega (arith, u a (height s a) (q .left-below) (q .taken) (omega arith) (sym r ∙ e) (empty-above s p a (q .left-below))))
+      x : ℕ
+      x = w .shaft
+
+      go : (y : ℕ) → 0 < y → y ≤ height t x → slot t x y ≡ c → depth t x ≤ y + emptyCount t → k + y ≤ height t x
+      go zero h j e f = absurd (omega arith)
+      go (suc y) h j e f = by (shown-after x y j)
+        where
+          by : Shown x (suc y) → k + suc y ≤ height t x
+          by (before l r) = omega (arith, lower-by-one x, u (placed s x (suc y) (w .below) h l (sym r ∙ e)) (omega (arith, lifted-empty s a b p q)))
+          by (lifted-here r) = absurd (omega (arith, u (placed s a (height s a) (q .left-below) (q .taken) (omega arith) (sym r ∙ e)) (empty-above s p a (q .left-below))))
 
 -- A list that uncovers c has k lifts at least, where k cassettes stand on each c that is not too low.
-pub none-sooner : {s t : Store} {bs : List ℕ} {c : ℕ} → Shaped s → Leads s bs t → Uncovered t c → (k : ℕ) → Under s c k → k ≤ length bs
-none-sooner {s} p ended w k u = omega (arith, u (w .shaft) (height s (w .shaft)) (w .below) (w .some) (omega arith) (w .top) (empty-above s p (w .shaft) (w .below)))
+pub none-sooner : {s t : Store} {bs : List ℕ} {c : ℕ} → Shaped s → Leads s bs t → Uncovered t c → (k : ℕ) → Under 0 (s .m) s c k → k ≤ length bs
+none-sooner {s} p ended w k u = omega (arith, u (placed s (w .shaft) (height s (w .shaft)) (w .below) (w .some) (omega arith) (w .top)) (empty-above s p (w .shaft) (w .below)))
 none-sooner p (then q r) w zero u = omega arith
 none-sooner p (then {s} {t} {b} {bs} q r) w (suc k) u = omega (arith, none-sooner (lifted-shaped s (left b) (entered b) p q) r w k (lift-under s (left b) (entered b) p q _ k u))

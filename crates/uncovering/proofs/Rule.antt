@@ -1,12 +1,10 @@
 -- The rule by which an order is answered (request 5/13): a number can be uncovered exactly if a place that shows it is no lower than row d − e of its shaft of
 -- depth d, and the fewest lifts that do are as many as stand on the nearest such place.
 use mathlib.Core.List.{List}
-use mathlib.Core.Path.{_≡_}
-use Prim.Native.Nat.{ℕ, suc, _≤_, _<_}
+use Prim.Native.Nat.{ℕ, suc}
 use native.Mathlib.Omega.{arith}
 use lib.ListN.{length}
 use Rattle.store.specs.declared.Store.{Store}
-use Rattle.store.specs.Slots.{height, slot}
 use Rattle.store.specs.Sound.{Shaped}
 use Rattle.uncovering.specs.declared.Uncovering.{Uncovering}
 use Rattle.uncovering.specs.declared.Uncovering.the-variants.{After, Absent, Buried}
@@ -17,32 +15,19 @@ use Rattle.uncovering.proofs.Cleared.{cleared}
 use Rattle.uncovering.proofs.Covered.{none-sooner}
 
 module _ (s : Store) (p : Shaped s) (c : ℕ) where
-  -- a place of the store
-  abbrev Somewhere : Type 0
-  Somewhere = Place (λ x. x < s .m) s c
-
-  abbrev place : (x y : ℕ) → x < s .m → 0 < y → y ≤ height s x → slot s x y ≡ c → Somewhere
-  place x y h i j e = record { shaft = x; row = y; picked = h; from-one = i; held = j; shows = e }
-
-  pub fewest : {k : ℕ} → Nearest (λ x. x < s .m) s c k → Fewest s c k
+  pub fewest : {k : ℕ} → Nearest 0 (s .m) s c k → Fewest s c k
   fewest {k} n =
       let w = n .place in
-      let l = cleared k s c (w .shaft) (w .row) p (w .picked) (w .from-one) (n .above) (w .shows) (n .high) in
-      record {
-        list = l .list;
-        uncovers = l .uncovers;
-        count = l .count;
-        least = λ other u. none-sooner p (u .leads) (u .uncovered) k (λ x y h i j e d. n .least (place x y h i j e) d);
-      }
+      let l = cleared k s c (w .shaft) (w .row) p (w .below) (w .from-one) (n .above) (w .shows) (n .high) in
+      record { list = l .list; uncovers = l .uncovers; count = l .count; least = λ other u. none-sooner p (u .leads) (u .uncovered) k (n .least) }
 
-  pub never-uncovered : ((w : Somewhere) → HighEnough w → ⊥) → (list : List ℕ) → Uncovers s c list → ⊥
-  never-uncovered n list u =
-      omega (arith, none-sooner p (u .leads) (u .uncovered) (suc (length list)) (λ x y h i j e d. absurd (n (place x y h i j e) d)))
+  pub never-uncovered : ((w : Place 0 (s .m) s c) → HighEnough w → ⊥) → (list : List ℕ) → Uncovers s c list → ⊥
+  never-uncovered n list u = omega (arith, none-sooner p (u .leads) (u .uncovered) (suc (length list)) (λ w i. absurd (n w i)))
 
   -- what an answer says of the places of the store, it says of the lists
-  pub by-places : (a : Uncovering) → NearestIs (λ x. x < s .m) s c a → UncoveringIs s c a
+  pub by-places : (a : Uncovering) → NearestIs 0 (s .m) s c a → UncoveringIs s c a
   by-places (After k) n = fewest n
-  by-places Absent n = λ w. n (place (w .shaft) (w .row) (w .below) (w .from-one) (w .held) (w .shows))
+  by-places Absent n = λ w. n (record { shaft = w .shaft; row = w .row; from = omega arith; below = w .below; from-one = w .from-one; held = w .held; shows = w .shows })
   by-places Buried n =
       let w = n .0 in
-      (record { shaft = w .shaft; row = w .row; below = w .picked; from-one = w .from-one; held = w .held; shows = w .shows }, never-uncovered (n .1))
+      (record { shaft = w .shaft; row = w .row; below = w .below; from-one = w .from-one; held = w .held; shows = w .shows }, never-uncovered (n .1))

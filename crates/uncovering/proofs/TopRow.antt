@@ -1,29 +1,32 @@
--- The rows of a shaft looked at from the top downward, until one shows the number.
+-- The rows of a shaft looked at from row 1 upward: the highest so far that shows the number.
+use borrow.Author.Tests.{eqb-true, eqb-false}
+use mathlib.Core.Bool.{Bool, true, false, cond}
 use mathlib.Core.List.{List}
-use mathlib.Core.Path.{_≡_, sym, ap, _∙_}
-use Prim.Native.Nat.{ℕ, _+_, _-_, _*_, _≤_, _<_}
+use mathlib.Core.Path.{_≡_, refl, sym, ap, _∙_}
+use Prim.Native.Nat.{ℕ, suc, _+_, _*_}
 use native.Mathlib.Decide.{ℕ-discrete}
 use native.Mathlib.Omega.{arith}
+use lib.Dec.{eqb}
 use lib.ListN.{getD}
 use Rattle.lifts.specs.Lifting.{shown}
-use Rattle.lifts.proofs.Moving.{shown-place}
 use Rattle.uncovering.specs.Promises.{TopRowIs}
 
-module _ (slots : List ℕ) (x rows c : ℕ) where
-  -- no row above r shows c
-  abbrev pub NoneAbove : ℕ → Type 0
-  NoneAbove r = (y : ℕ) → r < y → y ≤ rows → shown slots x y ≡ c → ⊥
+module _ (slots : List ℕ) (x c : ℕ) where
+  pub no-row : TopRowIs slots x 0 c 0
+  no-row = record { within = omega arith; shows = λ h. absurd (omega arith); none-above = λ y i j e. omega arith }
 
-  module _ (r v : ℕ) (h : 0 < r) (n : NoneAbove r) (e : v ≡ getD slots (16 * x + (r - 1)) 0) where
-    pub row-found : r ≤ rows → v ≡ c → TopRowIs slots x rows c r
-    row-found i f = record { within = i; shows = λ j. shown-place slots x r h ∙ sym e ∙ f; none-above = n }
-
-    pub row-passed : (v ≡ c → ⊥) → NoneAbove (r - 1)
-    row-passed f y i j g =
-        elim (ℕ-discrete y r) [
-          | yes k ↦ f (e ∙ sym (shown-place slots x r h) ∙ ap (shown slots x) (sym k) ∙ g)
-          | no k ↦ n y (omega arith) j g
-        ]
-
-  pub no-row : (r : ℕ) → r ≤ 0 → NoneAbove r → TopRowIs slots x rows c 0
-  no-row r h n = record { within = omega arith; shows = λ j. absurd (omega arith); none-above = λ y i j g. n y (omega arith) j g }
+  -- one row more
+  pub row-more : (k r v : ℕ) → TopRowIs slots x k c r → v ≡ getD slots (16 * x + k) 0 → TopRowIs slots x (suc k) c (cond (eqb v c) (suc k) r)
+  unfolding shown
+  row-more k r v t e = go (eqb v c) refl
+    where
+      go : (b : Bool) → eqb v c ≡ b → TopRowIs slots x (suc k) c (cond b (suc k) r)
+      go true f = record { within = omega arith; shows = λ h. sym e ∙ eqb-true v c f; none-above = λ y i j g. omega arith }
+      go false f = record {
+        within = omega (arith, t .within);
+        shows = t .shows;
+        none-above = λ y i j g. elim (ℕ-discrete y (suc k)) [
+          | yes u ↦ eqb-false v c f (e ∙ ap (shown slots x) (sym u) ∙ g)
+          | no u ↦ t .none-above y i (omega arith) g
+        ];
+      }

@@ -7,35 +7,40 @@ use Rattle.store.specs.Slots.{depth, height, slot, emptyCount}
 use Rattle.uncovering.specs.declared.Uncovering.{Uncovering}
 use Rattle.uncovering.specs.declared.Uncovering.the-variants.{After, Absent, Buried}
 
--- A row of a shaft, one of those that P picks, that shows c.
-pub record Place (P : ℕ → Type 0) (s : Store) (c : ℕ) : Type 0 where
+-- A row that shows c, of one of the shafts a to b − 1.
+pub record Place (a b : ℕ) (s : Store) (c : ℕ) : Type 0 where
   pub shaft : ℕ
   pub row : ℕ
-  pub picked : P shaft
+  pub from : a ≤ shaft
+  pub below : shaft < b
   pub from-one : 0 < row
   pub held : row ≤ height s shaft
   pub shows : slot s shaft row ≡ c
 
 -- the place is no lower than row d − e of its shaft of depth d
-abbrev pub HighEnough : {P : ℕ → Type 0} {s : Store} {c : ℕ} → Place P s c → Type 0
+abbrev pub HighEnough : {a b : ℕ} {s : Store} {c : ℕ} → Place a b s c → Type 0
 HighEnough {s = s} w = depth s (w .shaft) ≤ w .row + emptyCount s
 
+-- on every place that is high enough stand k cassettes at least
+abbrev pub Under : ℕ → ℕ → Store → ℕ → ℕ → Type 0
+Under a b s c k = (w : Place a b s c) → HighEnough w → k + w .row ≤ height s (w .shaft)
+
 -- k cassettes stand on one place that is high enough, and no fewer on any other.
-pub record Nearest (P : ℕ → Type 0) (s : Store) (c k : ℕ) : Type 0 where
-  pub place : Place P s c
+pub record Nearest (a b : ℕ) (s : Store) (c k : ℕ) : Type 0 where
+  pub place : Place a b s c
   pub high : HighEnough place
   pub above : k + place .row ≡ height s (place .shaft)
-  pub least : (w : Place P s c) → HighEnough w → k + w .row ≤ height s (w .shaft)
+  pub least : Under a b s c k
 
 -- what an answer says of the places
-abbrev pub NearestIs : (ℕ → Type 0) → Store → ℕ → Uncovering → Type 0
-NearestIs P s c (After k) = Nearest P s c k
-NearestIs P s c Absent = Place P s c → ⊥
-NearestIs P s c Buried = Place P s c × ((w : Place P s c) → HighEnough w → ⊥)
+abbrev pub NearestIs : ℕ → ℕ → Store → ℕ → Uncovering → Type 0
+NearestIs a b s c (After k) = Nearest a b s c k
+NearestIs a b s c Absent = Place a b s c → ⊥
+NearestIs a b s c Buried = Place a b s c × ((w : Place a b s c) → HighEnough w → ⊥)
 
 -- the nearer of two answers: fewer lifts before more, some before none, and a number that stands too low before one that stands nowhere
 abbrev pub nearerOf : Uncovering → Uncovering → Uncovering
-nearerOf Absent b = b
+nearerOf Absent q = q
 nearerOf Buried Absent = Buried
 nearerOf Buried Buried = Buried
 nearerOf Buried (After k) = After k

@@ -6,8 +6,9 @@ use lifts::Slots;
 use lifts::height_at;
 use lifts::slot_at;
 use rules::floor_rows;
+ghost use mathlib.Core.Bool.{cond};
 ghost use mathlib.Core.Path.{_≡_};
-ghost use Prim.Native.Nat.{_≤_, _<_, min};
+ghost use Prim.Native.Nat.{_+_, _≤_, _<_, min};
 ghost use Rattle.lifts.specs.Lifting.{mostShafts, mostRows};
 ghost use Rattle.store.specs.Slots.{held};
 ghost use Rattle.uncovering.specs.Nearest.{NearestIs, nearerOf};
@@ -43,19 +44,26 @@ pub fn uncovering_lifts(a: Uncovering) -> u8
     }
 }
 
-// The highest of rows 1 to `rows` of a shaft that shows a number, 0 for none.
+// The row where the test holds, or else the other.
+fn row_if(test: bool, row: u8, other: u8) -> u8
+    ensures { λ r. ⌜ r ≡ cond test row other ⌝ }
+{
+    if test { row } else { other }
+}
+
+// The highest of rows 1 to `rows` of a shaft that shows a number, 0 for none. All rows are looked at: that is faster than to stop at the one found.
 fn top_row(slots: &Slots, x: usize, rows: u8, number: u16) -> u8
     requires { ⌜ (x < mostShafts) × (rows ≤ mostRows) ⌝ }
     ensures { λ r. ⌜ TopRowIs (now (slots .entry)) x rows number r ⌝ }
 {
-    let mut row = rows;
-    while 0 < row {
-        if slot_at(slots, 16 * x + (row as usize - 1)) as u16 == number {
-            return row;
-        }
-        row -= 1;
+    let mut top: u8 = 0;
+    let mut k: u8 = 0;
+    while k < rows {
+        let here = slot_at(slots, 16 * x + (k as usize)) as u16;
+        k += 1;
+        top = row_if(here == number, k, top);
     }
-    0
+    top
 }
 
 // The answer by what one shaft shows: from the highest row that shows the number, under which every other is deeper.
@@ -70,7 +78,7 @@ fn in_shaft(
 ) -> Uncovering
     requires { ⌜ Ready (held m h (now heights) (now slots)) e ⌝ }
     requires { ⌜ x < m ⌝ }
-    ensures { λ r. ⌜ NearestIs (λ y. y ≡ x) (held m h (now (heights .entry)) (now (slots .entry))) number r ⌝ }
+    ensures { λ r. ⌜ NearestIs x (x + 1) (held m h (now (heights .entry)) (now (slots .entry))) number r ⌝ }
 {
     let rows = height_at(heights, x);
     let row = top_row(slots, x, rows, number);

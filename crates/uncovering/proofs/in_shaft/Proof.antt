@@ -5,7 +5,7 @@ use Prim.Native.Nat.{ℕ, _-_}
 use native.Mathlib.Omega.{arith}
 use Rattle.depths.specs.Depths.{depthBy}
 use Rattle.store.proofs.Acceptance.{accepted-shaped}
-use Rattle.uncovering.proofs.Nearest.{none-in-shaft, too-low, nearest-top}
+use Rattle.uncovering.proofs.Nearest.{no-place, too-low, nearest-top}
 use Rattle.uncovering.proofs.in_shaft.Statement.{statement}
 use Rattle.uncovering.proofs.in_shaft.Tie as tie
 
@@ -19,7 +19,7 @@ top-row-requires c κs =
     (omega (arith, c .before .pre .1, p .shafts), omega (arith, c .height-at .ensures, p .heights x, p .rows x))
 
 returns : tie.Need-returns
-returns c = none-in-shaft _ _ _ _ _ (c .before .before .height-at .ensures) (c .before .top-row .ensures) (c .if1 .taken)
+returns c = no-place _ _ _ _ _ (c .before .before .height-at .ensures) (c .before .top-row .ensures) (c .if1 .taken)
 
 -- how many rows never change
 floor : (c : tie.After-floor-rows) → let a = c .before .before .before .before .before .args in c .floor-rows .result ≡ depthBy (a .h) (a .x) - a .e
