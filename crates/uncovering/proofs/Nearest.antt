@@ -42,15 +42,19 @@ module _ (s : Store) (c x rows r : ℕ) (g : rows ≡ height s x) (t : TopRowIs 
 
 -- the shafts a to b − 1, and those from there to d − 1
 module _ (s : Store) (c a b d : ℕ) (h : a ≤ b) (i : b ≤ d) where
+  -- a place of some shafts, as one of others that its shaft is among
+  abbrev as-of : {j k p q : ℕ} (w : Place j k s c) → p ≤ w .shaft → w .shaft < q → Place p q s c
+  as-of w l m = record { shaft = w .shaft; row = w .row; from = l; below = m; from-one = w .from-one; held = w .held; shows = w .shows }
+
   -- what holds of the places of both holds of all
   every : (T : ℕ → ℕ → Type 0) → ((w : Place a b s c) → T (w .shaft) (w .row)) → ((w : Place b d s c) → T (w .shaft) (w .row)) → (w : Place a d s c) → T (w .shaft) (w .row)
   every T f g w = elim (decLt (w .shaft) b) [
-    | yes l ↦ f (record { shaft = w .shaft; row = w .row; from = w .from; below = l; from-one = w .from-one; held = w .held; shows = w .shows })
-    | no l ↦ g (record { shaft = w .shaft; row = w .row; from = omega arith; below = w .below; from-one = w .from-one; held = w .held; shows = w .shows })
+    | yes l ↦ f (as-of w (w .from) l)
+    | no l ↦ g (as-of w (omega arith) (w .below))
   ]
 
   abbrev among : {j k : ℕ} → a ≤ j → k ≤ d → Place j k s c → Place a d s c
-  among l m w = record { shaft = w .shaft; row = w .row; from = omega (arith, w .from); below = omega (arith, w .below); from-one = w .from-one; held = w .held; shows = w .shows }
+  among l m w = as-of w (omega (arith, w .from)) (omega (arith, w .below))
 
   nearest : {j k n : ℕ} → a ≤ j → k ≤ d → Nearest j k s c n → Under a b s c n → Under b d s c n → Nearest a d s c n
   nearest {n = n} l m w p q = record {
