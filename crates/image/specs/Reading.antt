@@ -58,7 +58,7 @@ raised s x v = record { m = s .m; h = s .h; heights = set (s .heights) x v; slot
 abbrev pub placed : Store → ℕ → ℕ → ℕ → Store
 placed s x k v = record { m = s .m; h = s .h; heights = s .heights; slots = set (s .slots) (16 * x + k) v }
 
--- "4. A cassette number 0. 5. A cassette number that stood earlier in the image."; "Number 5 no longer applies to" the blank (request 5/13)
+-- "4. A cassette number 0.", and then 5, a number that stood earlier in the image and is no blank (request 5/13)
 abbrev pub takeCassette : ℕ → ℕ → ℕ → Part
 takeCassette x k v before s l c = unless (cassetteFault before v) (c (before ++ (v ∷ [])) (placed s x k v) l)
 

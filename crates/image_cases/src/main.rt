@@ -82,7 +82,11 @@ fn written(what: &[u8], s: Store, out: &mut [u8]) {
 
 // Cassette i + 1 of those that are no blanks, and then blanks.
 fn numbered(i: usize) -> u8 {
-    if i < 254 { i as u8 + 1 } else { blank() }
+    if i < blank() as usize - 1 {
+        i as u8 + 1
+    } else {
+        blank()
+    }
 }
 
 // m 16, h 16, full: cassettes 1 to 254 from shaft 0 upward, and two blanks.

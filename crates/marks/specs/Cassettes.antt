@@ -31,6 +31,6 @@ abbrev pub first : ℕ → ℕ → ℕ
 first zero k = k
 first (suc j) k = suc j
 
--- "4. A cassette number 0. 5. A cassette number that stood earlier in the image." (4 before 5); "Number 5 no longer applies to" the blank (request 5/13)
+-- "4. A cassette number 0.", and then 5, a number that stood earlier: it "no longer applies to" the blank (request 5/13)
 unfoldable pub cassetteFault : List ℕ → ℕ → ℕ
 cassetteFault before c = first (given (eqb c 0) 4) (given (not (isBlank c) && ltb 0 (count c before)) 5)

@@ -32,8 +32,8 @@ pub enum End {
     StoreRefused(Fault),
 }
 
-// A count beside each slot of a store: how often the cassette that stands there was carried. 0 beside an empty slot. The carries of blanks
-// are counted together (request 5/13): those beside the slots that show one add up to them, and how they are spread is left free.
+// A count beside each slot of a store: how often the cassette that stands there was carried, if it is no blank, and 0 beside an empty slot. The carries
+// of blanks are counted together (request 5/13): the counts beside the slots that show one add up to them, and how they are spread is left free.
 pub type Carries = [usize; 256];
 
 // The store reached, how often each of its cassettes was carried, the count of lifts done, and how the replay ended.

@@ -67,7 +67,7 @@ module _ (s : Store) where
       (by-rows s x (h x) ∙ rows-pass (cassettesBelow s x) x (height s x) (n x) p)
 
 -- a number that no row up to a height shows stands nowhere
-pub none-stands : (s : Store) (c : ℕ) → ((x k : ℕ) → k < height s x → slot s x (suc k) ≡ c → ⊥) → count c (cassettes s) ≡ 0
+none-stands : (s : Store) (c : ℕ) → ((x k : ℕ) → k < height s x → slot s x (suc k) ≡ c → ⊥) → count c (cassettes s) ≡ 0
 unfolding count
 none-stands s c f =
     cassettes-added s (count c) refl (count-append c) ∙ sum-none (s .m) _ (λ x _. none-shown (s .slots) x c (height s x) (f x))

@@ -23,7 +23,7 @@ use Rattle.uncovering.specs.Nearest.{Place, Under}
 use Rattle.uncovering.specs.Uncovering.{Uncovered}
 
 -- what is empty above a shaft is part of e
-pub empty-above : (s : Store) → Shaped s → (x : ℕ) → x < s .m → depth s x ≤ height s x + emptyCount s
+empty-above : (s : Store) → Shaped s → (x : ℕ) → x < s .m → depth s x ≤ height s x + emptyCount s
 empty-above s p x h = omega (arith, room (s .m) (depth s) (stack s) (shaped-within s p) x h, empties-agree s, stack-length s x)
 
 -- a lift keeps e
@@ -34,7 +34,7 @@ lifted-empty s a b p q =
 
 -- a place of the store that shows c
 abbrev placed : (s : Store) {c : ℕ} (x y : ℕ) → x < s .m → 0 < y → y ≤ height s x → slot s x y ≡ c → Place 0 (s .m) s c
-placed s x y h i j e = record { shaft = x; row = y; from = omega arith; below = h; from-one = i; held = j; shows = e }
+placed s x y h i j e = record { stands = record { shaft = x; row = y; below = h; from-one = i; held = j; shows = e }; from = omega arith; to = h }
 
 module _ (s : Store) (a b : ℕ) (p : Shaped s) (q : Allowed s a b) where
   abbrev t : Store
@@ -67,17 +67,17 @@ module _ (s : Store) (a b : ℕ) (p : Shaped s) (q : Allowed s a b) where
 
   lift-under : (c k : ℕ) → Under 0 (s .m) s c (suc k) → Under 0 (t .m) t c k
   unfolding lifted
-  lift-under c k u w i = go (w .row) (w .from-one) (w .held) (w .shows) i
+  lift-under c k u w i = go (w .stands .row) (w .stands .from-one) (w .stands .held) (w .stands .shows) i
     where
       x : ℕ
-      x = w .shaft
+      x = w .stands .shaft
 
       go : (y : ℕ) → 0 < y → y ≤ height t x → slot t x y ≡ c → depth t x ≤ y + emptyCount t → k + y ≤ height t x
       go zero h j e f = absurd (omega arith)
       go (suc y) h j e f = by (shown-after x y j)
         where
           by : Shown x (suc y) → k + suc y ≤ height t x
-          by (before l r) = omega (arith, lower-by-one x, u (placed s x (suc y) (w .below) h l (sym r ∙ e)) (omega (arith, lifted-empty s a b p q)))
+          by (before l r) = omega (arith, lower-by-one x, u (placed s x (suc y) (w .stands .below) h l (sym r ∙ e)) (omega (arith, lifted-empty s a b p q)))
           by (lifted-here r) = absurd (omega (arith, u (placed s a (height s a) (q .left-below) (q .taken) (omega arith) (sym r ∙ e)) (empty-above s p a (q .left-below))))
 
 -- A list that uncovers c has k lifts at least, where k cassettes stand on each c that is not too low.

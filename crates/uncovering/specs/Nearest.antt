@@ -3,40 +3,37 @@
 use mathlib.Core.Path.{_≡_}
 use Prim.Native.Nat.{ℕ, _+_, _≤_, _<_, min}
 use Rattle.store.specs.declared.Store.{Store}
-use Rattle.store.specs.Slots.{depth, height, slot, emptyCount}
+use Rattle.store.specs.Slots.{depth, height, emptyCount}
 use Rattle.uncovering.specs.declared.Uncovering.{Uncovering}
 use Rattle.uncovering.specs.declared.Uncovering.the-variants.{After, Absent, Buried}
+use Rattle.uncovering.specs.Uncovering.{Stands}
 
--- A row that shows c, of one of the shafts a to b − 1.
+-- A place where c stands, in one of the shafts a to b − 1.
 pub record Place (a b : ℕ) (s : Store) (c : ℕ) : Type 0 where
-  pub shaft : ℕ
-  pub row : ℕ
-  pub from : a ≤ shaft
-  pub below : shaft < b
-  pub from-one : 0 < row
-  pub held : row ≤ height s shaft
-  pub shows : slot s shaft row ≡ c
+  pub stands : Stands s c
+  pub from : a ≤ stands .shaft
+  pub to : stands .shaft < b
 
--- the place is no lower than row d − e of its shaft of depth d
-abbrev pub HighEnough : {a b : ℕ} {s : Store} {c : ℕ} → Place a b s c → Type 0
-HighEnough {s = s} w = depth s (w .shaft) ≤ w .row + emptyCount s
+-- it stands no lower than row d − e of its shaft of depth d
+abbrev pub HighEnough : {s : Store} {c : ℕ} → Stands s c → Type 0
+HighEnough {s} w = depth s (w .shaft) ≤ w .row + emptyCount s
 
 -- on every place that is high enough stand k cassettes at least
 abbrev pub Under : ℕ → ℕ → Store → ℕ → ℕ → Type 0
-Under a b s c k = (w : Place a b s c) → HighEnough w → k + w .row ≤ height s (w .shaft)
+Under a b s c k = (w : Place a b s c) → HighEnough (w .stands) → k + w .stands .row ≤ height s (w .stands .shaft)
 
 -- k cassettes stand on one place that is high enough, and no fewer on any other.
 pub record Nearest (a b : ℕ) (s : Store) (c k : ℕ) : Type 0 where
   pub place : Place a b s c
-  pub high : HighEnough place
-  pub above : k + place .row ≡ height s (place .shaft)
+  pub high : HighEnough (place .stands)
+  pub above : k + place .stands .row ≡ height s (place .stands .shaft)
   pub least : Under a b s c k
 
 -- what an answer says of the places
 abbrev pub NearestIs : ℕ → ℕ → Store → ℕ → Uncovering → Type 0
 NearestIs a b s c (After k) = Nearest a b s c k
 NearestIs a b s c Absent = Place a b s c → ⊥
-NearestIs a b s c Buried = Place a b s c × ((w : Place a b s c) → HighEnough w → ⊥)
+NearestIs a b s c Buried = Place a b s c × ((w : Place a b s c) → HighEnough (w .stands) → ⊥)
 
 -- the nearer of two answers: fewer lifts before more, some before none, and a number that stands too low before one that stands nowhere
 abbrev pub nearerOf : Uncovering → Uncovering → Uncovering

@@ -212,7 +212,7 @@ mod tests {
         assert_eq!(random.word(), 0x6E78_9E6A_A1B9_65F4);
     }
 
-    /// Cassettes for so many slots: different ones where there are enough, blanks but for a few, or blanks alone.
+    /// Cassettes for so many slots: different ones where there are enough, blanks alone, blanks but for a few, or half of them blanks.
     fn any_store(random: &mut Random, m: usize, h: usize, n: usize) -> Store {
         match random.below(4) {
             0 if n <= MOST_CASSETTE => random.store(m, h, n),

@@ -209,7 +209,7 @@ mod tests {
         }
     }
 
-    /// Stores with blanks are those in which as many different cassettes stand, each cassette painted over.
+    /// Stores with blanks are those in which as many different cassettes stand, all but the first two painted over.
     #[test]
     fn stores_with_blanks_are_stores_painted_over() {
         let paint = |cassette: &u8| if *cassette > 2 { BLANK } else { *cassette };

@@ -94,7 +94,7 @@ fn one_shaft() {
     pair("1x4: [b b b]", "1x4: [b b b]", 0);
 }
 
-/// The readings are: 1 b b, b 1 b, b 1 b b 2 and b b 1 b 2.
+/// The same reading, and another.
 #[test]
 fn two_shafts() {
     pair("2x3: [1 b] [b]", "2x3: [1] [b b]", 0);
@@ -283,6 +283,23 @@ fn all_256_blanks() {
     assert_eq!(replayed.answer, Answer::of(10, 0));
     assert_eq!(order(&all_blanks()), (0, 0));
     assert_eq!(caller().check(&image[..267]), Answer::of(2, 0));
+}
+
+/// What the C header defines a name as.
+fn defined(name: &str) -> usize {
+    let header = include_str!("../../../include/halyardgage.h");
+    let line = format!("#define {name} ");
+    let value = header.lines().find_map(|it| it.strip_prefix(&line));
+    value.expect("a definition").parse().expect("a number")
+}
+
+/// The constants of the header are those of the largest store.
+#[test]
+fn constants_of_the_header() {
+    assert_eq!(defined("HALYARD_BLANK"), BLANK.into());
+    let image = image::write(&all_blanks());
+    assert_eq!(defined("HALYARD_IMAGE_MAX"), image.len());
+    assert_eq!(defined("HALYARD_LIST_MAX"), all_blanks().list_space());
 }
 
 /// 256 cassettes, blanks but for a few: every slot is bound.

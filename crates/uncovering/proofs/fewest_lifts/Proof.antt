@@ -18,7 +18,7 @@ abbrev μ-loop : tie.MeasureT-loop
 μ-loop m h e heights slots number shafts best₀ x₀ best x = shafts - x
 
 loop-holds : tie.Need-loop-holds Inv-loop μ-loop
-loop-holds c = (refl, omega arith, λ w. omega (arith, w .below))
+loop-holds c = (refl, omega arith, λ w. omega (arith, w .to))
 
 in-shaft-requires : tie.Need-in-shaft-requires Inv-loop μ-loop
 in-shaft-requires c κs = (c .before .before .pre, omega (arith, c .loop-test .taken))

@@ -19,7 +19,7 @@ top-row-requires c κs =
     (omega (arith, c .before .pre .1, p .shafts), omega (arith, c .height-at .ensures, p .heights x, p .rows x))
 
 returns : tie.Need-returns
-returns c = no-place _ _ _ _ _ (c .before .before .height-at .ensures) (c .before .top-row .ensures) (c .if1 .taken)
+returns c = no-place _ _ _ _ _ (c .before .before .before .pre .1) (c .before .before .height-at .ensures) (c .before .top-row .ensures) (c .if1 .taken)
 
 -- how many rows never change
 floor : (c : tie.After-floor-rows) → let a = c .before .before .before .before .before .args in c .floor-rows .result ≡ depthBy (a .h) (a .x) - a .e
@@ -28,12 +28,12 @@ floor c = c .floor-rows .ensures ∙ ap (λ (d : ℕ). d - c .before .before .be
 returns-2 : tie.Need-returns-2
 returns-2 c =
     let t = c .before .before .before .before in
-    too-low _ _ _ _ _ (t .before .height-at .ensures) (t .top-row .ensures) (c .before .before .before .if1 .left) _ (t .before .before .pre .0) _ (floor (c .before)) (omega (arith, c .if2 .taken))
+    too-low _ _ _ _ _ (t .before .before .pre .1) (t .before .height-at .ensures) (t .top-row .ensures) (c .before .before .before .if1 .left) _ (t .before .before .pre .0) _ (floor (c .before)) (omega (arith, c .if2 .taken))
 
 returns-3 : tie.Need-returns-3
 returns-3 c =
     let t = c .before .before .before .before in
-    nearest-top _ _ _ _ _ (t .before .height-at .ensures) (t .top-row .ensures) (c .before .before .before .if1 .left) _ (t .before .before .pre .0) _ (floor (c .before)) (omega (arith, c .if2 .left))
+    nearest-top _ _ _ _ _ (t .before .before .pre .1) (t .before .height-at .ensures) (t .top-row .ensures) (c .before .before .before .if1 .left) _ (t .before .before .pre .0) _ (floor (c .before)) (omega (arith, c .if2 .left))
 
 pub in-shaft-spec : {M : Type 1} → statement M
 in-shaft-spec =
