@@ -27,11 +27,11 @@ module _ (l : List ℕ) (c : ℕ) where
 
   pub cassette-taken : (c ≡ 0 → ⊥) → (isBlank c ≡ false → count c l ≡ 0) → cassetteFault l c ≡ 0
   unfolding cassetteFault
-  cassette-taken n h = simp (ne-eqb c 0 n) (by-repeat (isBlank c) refl)
+  cassette-taken n h = simp (ne-eqb c 0 n) (by-blank (isBlank c) refl)
     where
-      by-repeat : (r : Bool) → isBlank c ≡ r → given (not r && ltb 0 (count c l)) 5 ≡ 0
-      by-repeat true e = refl
-      by-repeat false e = simp (le-ltb 0 (count c l) (omega (arith, h e)))
+      by-blank : (r : Bool) → isBlank c ≡ r → given (not r && ltb 0 (count c l)) 5 ≡ 0
+      by-blank true e = refl
+      by-blank false e = simp (le-ltb 0 (count c l) (omega (arith, h e)))
 
   pub taken-cassette : cassetteFault l c ≡ 0 → (c ≡ 0 → ⊥) × (isBlank c ≡ false → count c l ≡ 0)
   unfolding cassetteFault
