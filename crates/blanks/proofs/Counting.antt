@@ -7,7 +7,7 @@ use native.Mathlib.Omega.{arith}
 use mir.Val.{boolByte}
 use lib.ListN.{getD}
 use Rattle.stacks.specs.Count.{count, one}
-use Rattle.stacks.proofs.Counts.{count-append, count-last}
+use Rattle.stacks.proofs.Counts.{one-most, count-append, count-last}
 use Rattle.marks.specs.Cassettes.{blank, isBlank}
 use Rattle.marks.proofs.Others.{blank-counts}
 use Rattle.lifts.specs.Lifting.{shown}
@@ -15,13 +15,12 @@ use Rattle.rows.specs.Rows.{rowsUp}
 use Rattle.store.specs.declared.Store.{Store}
 use Rattle.store.specs.Slots.{height, upward, cassettesBelow}
 
-pub byte-most : (b : Bool) → boolByte b ≤ 1
-byte-most true = omega arith
-byte-most false = omega arith
-
 byte-one : (b : Bool) → boolByte b ≡ one b
 byte-one true = refl
 byte-one false = refl
+
+pub byte-most : (b : Bool) → boolByte b ≤ 1
+byte-most b = omega (arith, byte-one b, one-most b)
 
 -- one row more, by whether it shows a blank
 pub row-more : (slots : List ℕ) (x k : ℕ) {v : ℕ} {b : Bool} → v ≡ getD slots (16 * x + k) 0 → b ≡ isBlank v

@@ -22,6 +22,7 @@ use Rattle.replay.specs.declared.Played.{Played}
 use Rattle.replay.specs.declared.Replayed.{Replayed}
 use Rattle.replay.specs.Promises.{carriesOf, PlayIs, ReplayIs}
 use Rattle.replay.specs.Replaying.{Outcome, replayFrom, replay, timesCarried}
+use Rattle.replay.specs.Same.{SameCarries, SameReplay, SamePlay}
 use Rattle.replay.proofs.Carries.{count-beside}
 use Rattle.replay.proofs.Playing.{replay-played}
 use Rattle.replay.proofs.Replays.{replay-accepted, replay-refuses, from-reaches}
@@ -61,23 +62,12 @@ module _ (s : Store) (bs carries : List ℕ) (o : (c : ℕ) → carriesOf c (rep
             none-beside i h z ∙ sym z)
       ]
 
--- the same count for every number, and beside every slot but those that show a blank
-pub record SameCarries (slots k l : List ℕ) : Type 0 where
-  pub numbers : (c : ℕ) → carriesOf c slots k ≡ carriesOf c slots l
-  pub beside : (i : ℕ) → i < slotCount → isBlank (getD slots i 0) ≡ false → getD k i 0 ≡ getD l i 0
-
 same-carries : (s : Store) (bs : List ℕ) {t : Store} (k l : List ℕ) → t ≡ replay s bs .reached → ((c : ℕ) → carriesOf c (t .slots) k ≡ timesCarried (replay s bs) c)
     → ((c : ℕ) → carriesOf c (t .slots) l ≡ timesCarried (replay s bs) c) → SameCarries (t .slots) k l
 same-carries s bs k l e p q = record {
   numbers = λ c. p c ∙ sym (q c);
   beside = rw e λ i h b. beside s bs k (λ c. rw e at (p c)) i h b ∙ sym (beside s bs l (λ c. rw e at (q c)) i h b);
 }
-
-pub record SameReplay (x y : Replayed) : Type 0 where
-  pub store : x .store ≡ y .store
-  pub count : x .count ≡ y .count
-  pub end : x .end ≡ y .end
-  pub carries : SameCarries (x .store .slots) (x .carries) (y .carries)
 
 pub replay-exact : (s : Store) (bs : List ℕ) {x y : Replayed} → ReplayIs (replay s bs) x → ReplayIs (replay s bs) y → SameReplay x y
 replay-exact s bs {x} {y} p q = record {
@@ -88,12 +78,6 @@ replay-exact s bs {x} {y} p q = record {
 }
 
 -- so it is with lifts made in lent arrays, however many counts are lent
-pub record SamePlay (t u : Store) (k l : List ℕ) (x y : Played) : Type 0 where
-  pub store : t ≡ u
-  pub played : x ≡ y
-  pub counted : length k ≡ slotCount → SameCarries (t .slots) k l
-  pub uncounted : (length k ≡ slotCount → ⊥) → k ≡ l
-
 pub play-exact : (s : Store) (bs : List ℕ) → Accepted s → {t u : Store} {k l : List ℕ} {x y : Played} → length k ≡ length l → PlayIs (replayFrom s bs) t k x
     → PlayIs (replayFrom s bs) u l y → SamePlay t u k l x y
 play-exact s bs e {t} {u} {k} {l} {x} {y} n p q = record {

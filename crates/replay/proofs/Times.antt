@@ -1,6 +1,5 @@
 -- How often a replay carries each cassette (request 2/13): the number 0 never, and all numbers together as often as lifts are done.
 use borrow.Author.Tests.{ne-eqb}
-use mathlib.Core.Bool.{Bool, true, false}
 use mathlib.Core.List.{List}
 use mathlib.Core.Path.{_≡_, refl, sym, ap, _∙_}
 use Prim.Native.Nat.{ℕ, _%_, _^_, _≤_, _<_}
@@ -8,7 +7,7 @@ use native.Mathlib.Omega.{arith}
 use lib.Dec.{eqb}
 use lib.ListN.{length}
 use Rattle.stacks.specs.Count.{one, count, sum}
-use Rattle.stacks.proofs.Counts.{counts-more}
+use Rattle.stacks.proofs.Counts.{one-most, counts-more}
 use Rattle.stacks.proofs.Sums.{sum-equal, sum-same}
 use Rattle.marks.specs.Cassettes.{numbers}
 use Rattle.lifts.specs.Bytes.{left, entered}
@@ -32,10 +31,6 @@ unfolding count
 never-zero =
     of-each-replay (λ s bs o. Accepted s → timesCarried o 0 ≡ 0) (λ s bs k e. refl)
     (λ s b bs q o r e. omega (arith, ap one (ne-eqb 0 (topOf s (left b)) (λ z. accepted-row s e (left b) (height s (left b)) (q .taken) (omega arith) (sym z))), r (leads-accepted e (then q ended))))
-
-one-most : (b : Bool) → one b ≤ 1
-one-most true = omega arith
-one-most false = omega arith
 
 -- each lift counts once
 total-from : (s : Store) (bs : List ℕ) → Shaped s → sum numbers (timesCarried (replayFrom s bs)) ≡ replayFrom s bs .count

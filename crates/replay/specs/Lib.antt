@@ -2,3 +2,4 @@ pub mod Counting
 pub mod Numbers
 pub mod Promises
 pub mod Replaying
+pub mod Same

@@ -1,8 +1,9 @@
 -- How often a number stands in a list, and that stores in which every number stands equally often hold equally many cassettes.
 use borrow.Author.Tests.{eq-eqb, ne-eqb}
+use mathlib.Core.Bool.{Bool, true, false}
 use mathlib.Core.Path.{_≡_, refl, sym, ap, _∙_}
 use mathlib.Core.List.{List, [], _∷_, _++_}
-use Prim.Native.Nat.{ℕ, zero, suc, _+_, _<_}
+use Prim.Native.Nat.{ℕ, zero, suc, _+_, _≤_, _<_}
 use native.Mathlib.Decide.{ℕ-discrete}
 use native.Mathlib.Omega.{arith}
 use lib.Dec.{eqb}
@@ -10,6 +11,11 @@ use lib.ListN.{length, length-append}
 use Rattle.stacks.specs.Run.{Stacks}
 use Rattle.stacks.specs.Count.{sum, one, count, occurrences, total}
 use Rattle.stacks.proofs.Sums.{sum-add, sum-alone}
+
+-- One number counts once at most.
+pub one-most : (b : Bool) → one b ≤ 1
+one-most true = omega arith
+one-most false = omega arith
 
 -- The count of two lists joined.
 pub count-append : (c : ℕ) (l r : List ℕ) → count c (l ++ r) ≡ count c l + count c r
