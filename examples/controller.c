@@ -221,6 +221,15 @@ static int blanks(void)
     return planned(&start, &goal, 0) & asked(&start, orders, 1);
 }
 
+/* Plans with nothing lent. */
+static void planned_into_nothing(const struct image *start,
+                                 const struct image *goal)
+{
+    good("plan",
+         halyard_plan(start->bytes, start->len, goal->bytes, goal->len, NULL, 0),
+         "a list");
+}
+
 /* Some of the ways in which a call is refused. */
 static void refusals(const struct image *start, const struct image *goal)
 {
@@ -228,14 +237,13 @@ static void refusals(const struct image *start, const struct image *goal)
     static const uint8_t list[] = {0x01, 0x10, 0x11};
     struct image image = pack(2, 4, other_order);
 
-    printf("\nA goal out of reach\n");
+    printf("\nA goal out of reach, however much is lent\n");
     print_store("goal", &image);
     reachable(start, &image);
+    planned_into_nothing(start, &image);
 
-    printf("\nNo space for the list\n");
-    good("plan",
-         halyard_plan(start->bytes, start->len, goal->bytes, goal->len, NULL, 0),
-         "a list");
+    printf("\nA goal within reach, and no space for the list\n");
+    planned_into_nothing(start, goal);
 
     printf("\nAn image without its last byte\n");
     image.len -= 1;

@@ -32,7 +32,7 @@
  * the first one met is given:
  *   - an image is read field by field, the start before the goal, and a fault
  *     of reading comes before any other;
- *   - for two stores then 8, 9, 10, 15;
+ *   - for two stores then 8, 9, 15, 10;
  *   - for a replay then 10, before any lift is tried, and for each lift 11,
  *     13, 14;
  *   - for an order, in its own record, 16, 17. An order that fails does not
@@ -170,13 +170,16 @@ uint64_t halyard_reachable(const uint8_t *start, size_t start_len,
 /*
  * Writes a list of lifts that leads from start to goal.
  *
- * Reads start and goal. list_len must be at least HALYARD_LIST_SPACE(h, n);
- * HALYARD_LIST_MAX is enough for every store.
+ * Reads start and goal. For a list list_len must be at least
+ * HALYARD_LIST_SPACE(h, n); HALYARD_LIST_MAX is enough for every store.
  * Returns HALYARD_OK and the count of lifts, which is at most
  * HALYARD_LIST_SPACE(h, n); that many of the first bytes of list are then the
  * list, and the rest stay as they came. Start equal to goal gives count 0.
  * Otherwise it writes nothing and returns, with count 0, the first fault of
- * reading, 1 to 5 or 7, or 8, 9, HALYARD_SPACE or HALYARD_UNREACHABLE.
+ * reading, 1 to 5 or 7, or 8, 9, HALYARD_UNREACHABLE or HALYARD_SPACE.
+ * HALYARD_UNREACHABLE does not depend on list_len, which may be 0: no list of
+ * lifts leads to the goal, however much is lent. HALYARD_SPACE says that one
+ * does: the same call with HALYARD_LIST_SPACE(h, n) bytes gives a list.
  */
 uint64_t halyard_plan(const uint8_t *start, size_t start_len,
                       const uint8_t *goal, size_t goal_len,

@@ -199,7 +199,7 @@ mod tests {
     fn plan_gives_the_number_of_the_c_call() {
         let mut random = Random::new(53);
         let mut planned = [0; 2];
-        for _ in 0..5_000 {
+        for _ in 0..6_000 {
             let case = any_case(&mut random);
             if case.start.m() < 3 || case.start.e() < case.start.depth {
                 continue;

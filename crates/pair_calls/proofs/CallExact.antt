@@ -1,5 +1,6 @@
 -- What the numbers of the calls say, back from the answer to the fact: for images that are read and stores that can be compared the yes or no gives 0
--- exactly if the goal can be reached and 15 exactly if not; a plan of number 0 has its list in the first bytes, and for one of number 15 there is none.
+-- exactly if the goal can be reached and 15 exactly if not; so does a plan, but for 10 where the goal can be reached and less than the list space is lent; one
+-- of number 0 has its list in the first bytes, and any other has written nothing.
 use mathlib.Core.List.{List}
 use mathlib.Core.Logic.{_⊎_, inl, inr, ⊎-elim}
 use mathlib.Core.Path.{_≡_, sym, ap, _∙_, subst}
@@ -7,15 +8,18 @@ use Prim.Native.Nat.{ℕ, _/_, _%_, _^_, _≤_, _<_}
 use native.Mathlib.Decide.{ℕ-discrete}
 use native.Mathlib.Nat.{mod-eq-of-lt}
 use native.Mathlib.Omega.{arith}
+use lib.ListN.{length}
 use Rattle.store.specs.Lists.{Reachable}
+use Rattle.store.specs.Slots.{listSpace}
 use Rattle.store.proofs.Space.{list-space-most}
 use Rattle.reach.specs.Pairs.{Comparable}
 use Rattle.reachable.specs.Numbers.{reachNumber}
 use Rattle.reachable.specs.Promises.{ReachSays}
 use Rattle.reachable.proofs.Exact.{one-reach, yes-exactly, no-exactly, zero-is-yes, fifteen-is-no}
+use Rattle.plans.specs.declared.PlanAnswer.{PlanAnswer}
 use Rattle.plans.specs.Numbers.{planNumber}
 use Rattle.plans.specs.Promises.{PlanSays, Lists}
-use Rattle.plans.proofs.PlanExact.{listed-list, zero-is-listed, fifteen-is-unreachable, number-most}
+use Rattle.plans.proofs.PlanExact.{one-plan, listed-list, unlisted-untouched, zero-is-listed, ten-is-little, fifteen-is-unreachable, number-most}
 use Rattle.marks.proofs.Faulted.{first-either}
 use Rattle.image.specs.Numbers.{ReadingGives}
 use Rattle.image.proofs.Numbers.{number-given}
@@ -90,8 +94,41 @@ module _ {a b came out : List ℕ} {r : ℕ} (p : PlanCallIs a b came r out) whe
       let few : g .planned .count < 2 ^ 56 = omega (arith, l .count, l .short, list-space-most _ (c .start)) in
       subst (Lists (storeIn a) (storeIn b) came out) (sym (q .1 ∙ mod-eq-of-lt few)) l
 
+  -- none exists, whatever was lent
   pub call-unreachable : r % 256 ≡ 15 → Reachable (storeIn a) (storeIn b) → ⊥
   call-unreachable e =
       let g = p .answered (planned (inr (omega arith))) in
       let k = fifteen-is-unreachable (g .planned .answer) (sym (number-of g .0) ∙ e) in
-      subst (PlanSays (storeIn a) (storeIn b) came) k (g .is .answer) .1 .1
+      subst (PlanSays (storeIn a) (storeIn b) came) k (g .is .answer) .1
+
+  -- one exists, and too little was lent for it
+  pub call-little : r % 256 ≡ 10 → Reachable (storeIn a) (storeIn b) × (length came < listSpace (storeIn a))
+  call-little e =
+      let g = p .answered (planned (inr (omega arith))) in
+      let k = ten-is-little _ _ came (g .planned .answer) (g .is .answer) (sym (number-of g .0) ∙ e) in
+      subst (PlanSays (storeIn a) (storeIn b) came) k (g .is .answer) .1
+
+  -- a number other than 0 counts no lift and leaves the lent bytes as they came
+  pub call-untouched : (r % 256 ≡ 0 → ⊥) → (r / 256 ≡ 0) × (out ≡ came)
+  call-untouched n =
+      elim (ℕ-discrete (readFaults a b) 0) [
+        | yes z ↦ (let g = p .answered z in
+            let u = unlisted-untouched _ _ _ _ (g .planned) (g .is) (λ k. n (number-of g .0 ∙ ap planNumber k)) in
+            (omega (arith, number-of g .1, u .count), u .bytes))
+        | no f ↦ (omega (arith, p .unread f .0, faults-few a b), p .unread f .1)
+      ]
+
+  -- the number of an answer that is right
+  module _ (z : readFaults a b ≡ 0) where
+    called : (v : PlanAnswer) → PlanSays (storeIn a) (storeIn b) came v → r % 256 ≡ planNumber v
+    called v q = let g = p .answered z in number-of g .0 ∙ ap planNumber (one-plan _ _ came (g .planned .answer) v (g .is .answer) q)
+
+    module _ (c : Comparable (storeIn a) (storeIn b)) where
+      pub unreachable-called : (Reachable (storeIn a) (storeIn b) → ⊥) → r % 256 ≡ 15
+      unreachable-called n = called PlanAnswer.Unreachable (c, n)
+
+      pub listed-called : Reachable (storeIn a) (storeIn b) → listSpace (storeIn a) ≤ length came → r % 256 ≡ 0
+      listed-called l h = called PlanAnswer.Listed (c, (l, h))
+
+      pub little-called : Reachable (storeIn a) (storeIn b) → length came < listSpace (storeIn a) → r % 256 ≡ 10
+      little-called l h = called PlanAnswer.LittleSpace (c, (l, h))

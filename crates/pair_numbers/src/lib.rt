@@ -45,7 +45,7 @@ pub fn plan_number(a: PlanAnswer) -> u8
     match a {
         PlanAnswer::Listed => 0,
         PlanAnswer::Refused(f) => pair_fault_number(f),
-        PlanAnswer::LittleSpace => 10,
         PlanAnswer::Unreachable => 15,
+        PlanAnswer::LittleSpace => 10,
     }
 }

@@ -1,2 +1,3 @@
+pub mod FifteenFirst
 pub mod PlanAnswers
 pub mod PlanExact

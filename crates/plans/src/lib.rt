@@ -1,4 +1,5 @@
-// A plan: how the list maker answers (document 01, "Which comes first"), and what is planned for two stores that can be compared.
+// A plan: how the list maker answers (document 01, "Which comes first", and request 6/13), and what is planned for two stores that can be
+// compared.
 use depths::list_space;
 use making::make;
 use pairs::PairFault;
@@ -9,12 +10,12 @@ ghost use Rattle.store.specs.Slots.{cassetteCount};
 ghost use Rattle.reach.specs.Pairs.{Comparable};
 ghost use Rattle.plans.specs.Promises.{RefusedPlan, PlanIs};
 
-// How the list maker answers: a list, or refused with the fault of the pair, 10 or 15.
+// How the list maker answers: a list, or refused with the fault of the pair, 15 or 10.
 pub enum PlanAnswer {
     Listed,
     Refused(PairFault),
-    LittleSpace,
     Unreachable,
+    LittleSpace,
 }
 
 // The answer, and the count of lifts in the list, 0 where there is none.
@@ -39,17 +40,19 @@ fn listed(count: usize) -> Planned
     }
 }
 
-// For two stores that can be compared, and hold n cassettes: 10, 15, or the list.
+// For two stores that can be compared, and hold n cassettes: 15, 10, or the list.
 pub fn plan_pair(start: Store, goal: Store, n: usize, out: &mut [u8]) -> Planned
     requires { ⌜ Comparable start goal ⌝ }
     requires { ⌜ n ≡ cassetteCount start ⌝ }
     ensures { λ r. ⌜ PlanIs start goal (now (out .entry)) (now (out .exit)) r ⌝ }
 {
-    if out.len() < list_space(start.m, start.h, n) {
-        return refused(PlanAnswer::LittleSpace, out);
-    }
-    if !rule_holds(start, goal, n) {
+    let reachable = rule_holds(start, goal, n);
+    let little = out.len() < list_space(start.m, start.h, n);
+    if !reachable {
         return refused(PlanAnswer::Unreachable, out);
+    }
+    if little {
+        return refused(PlanAnswer::LittleSpace, out);
     }
     let count = make(start, goal, out);
     listed(count)

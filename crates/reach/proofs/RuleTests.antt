@@ -1,6 +1,6 @@
 -- The tests say whether lists and stores are equal and whether the rule holds; so for comparable stores "reachable" is decided.
 use borrow.Author.Tests.{eqb-true, eq-eqb}
-use mathlib.Core.Bool.{true, _&&_}
+use mathlib.Core.Bool.{Bool, true, _&&_}
 use mathlib.Core.List.{List, [], _∷_}
 use mathlib.Core.Logic.{_⊎_}
 use mathlib.Core.Path.{_≡_, refl, sym, subst}
@@ -71,10 +71,13 @@ module _ (s t : Store) where
   unfolding ruleTest
   rule-test = rule-for (s .m)
 
-  -- for comparable stores the same test says whether the goal can be reached
+  -- for comparable stores a test of the rule says whether the goal can be reached
   module _ (p : Comparable s t) where
+    pub by-rule : {b : Bool} → Decides b (Rule s t) → Decides b (Reachable s t)
+    by-rule = decides-as (reachable-exactly s t p .1) (reachable-rule s t p)
+
     pub reachable-test : Decides (ruleTest s t) (Reachable s t)
-    reachable-test = decides-as (reachable-exactly s t p .1) (reachable-rule s t p) rule-test
+    reachable-test = by-rule rule-test
 
     pub reachable-decided : Reachable s t ⊎ (Reachable s t → ⊥)
     reachable-decided = decided (ruleTest s t) reachable-test

@@ -9,11 +9,11 @@ use native.Mathlib.Omega.{arith}
 use lib.Dec.{eqb}
 use Rattle.stacks.specs.Count.{count, one}
 use Rattle.marks.specs.Cassettes.{given}
-use Rattle.marks.proofs.Faulted.{first-none, not-given, both-true}
+use Rattle.marks.proofs.Faulted.{first-none, first-either, given-either, not-given, both-true}
 use Rattle.store.specs.declared.Store.{Store}
 use Rattle.store.specs.Slots.{SameFrame, cassettes}
 use Rattle.store.specs.Accept.{storeFault}
-use Rattle.reach.specs.Pairs.{agreeOn, frameFault, cassettesFault, pairFault, SameCassettes, Comparable}
+use Rattle.reach.specs.Pairs.{agreeOn, sameFrame, frameFault, cassettesFault, pairFault, SameCassettes, Comparable}
 
 agree-true : (r k l : List ℕ) → agreeOn r k l ≡ true → (c : ℕ) → 0 < count c r → count c k ≡ count c l
 unfolding agreeOn count
@@ -63,6 +63,16 @@ pub agreed-frames : (s t : Store) → frameFault s t ≡ 0 → SameFrame s t
 agreed-frames s t e =
     let f = both-true (eqb (s .m) (t .m)) (eqb (s .h) (t .h)) (not-given _ 7 e) in
     record { shafts = eqb-true (s .m) (t .m) (f .0); depths = eqb-true (s .h) (t .h) (f .1) }
+
+-- the numbers that two stores can be refused with are those of a store, 8 and 9
+pub pair-either : (P : ℕ → Type 0) → P 0 → P 8 → P 9 → ((s : Store) → P (storeFault s)) → (s t : Store) → P (pairFault s t)
+unfolding pairFault cassettesFault
+pair-either P none eight nine store s t =
+    let k = cassettes s in
+    let l = cassettes t in
+    first-either P _ _ (store s)
+    (first-either P _ _ (store t)
+    (first-either P _ _ (given-either P (not (sameFrame s t)) 8 none eight) (given-either P (not (agreeOn k k l && agreeOn l k l)) 9 none nine)))
 
 -- none of the numbers of two stores applies exactly if they are comparable
 pub comparable : (s t : Store) → pairFault s t ≡ 0 → Comparable s t

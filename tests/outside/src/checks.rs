@@ -24,13 +24,13 @@ pub fn reachable(caller: &mut Caller, start: &[u8], goal: &[u8], number: u8) {
     assert_eq!(answer, wanted, "reachable, {}", show_pair(start, goal));
 }
 
-/// Compares a plan, where `number` is what the yes or no should give.
+/// Compares a plan, where `number` is what the yes or no should give: so should the plan, whatever is lent, but for 10 in place of a list.
 pub fn plan(caller: &mut Caller, start: &[u8], goal: &[u8], list_len: usize, number: u8) {
     let written = caller.plan(start, goal, list_len);
     let about = || format!("plan into {list_len} bytes, {}", show_pair(start, goal));
     let (answer, list) = (written.answer, &written.space);
     match expected::pair(start, goal) {
-        Ok((start, _)) if list_len < start.list_space() => {
+        Ok((start, _)) if number == 0 && list_len < start.list_space() => {
             assert_eq!(answer, Answer::of(10, 0), "{}", about());
         }
         Ok((start, goal)) if number == 0 => {
@@ -44,6 +44,15 @@ pub fn plan(caller: &mut Caller, start: &[u8], goal: &[u8], list_len: usize, num
     }
     let count = answer.count as usize;
     assert!(list.kept_but(count), "bytes past the list: {}", about());
+}
+
+/// Compares plans into no space, a byte less than a plan from this start asks for, and as much.
+pub fn plans(caller: &mut Caller, start: &Store, goal: &Store, number: u8) {
+    let (from, to) = (image::write(start), image::write(goal));
+    let need = start.list_space();
+    for list_len in [0, need.saturating_sub(1), need] {
+        plan(caller, &from, &to, list_len, number);
+    }
 }
 
 /// The count of lifts of a list, which is within the bound.

@@ -95,15 +95,16 @@ fn other_cassettes(random: &mut Random, start: &Store) -> Store {
     goal
 }
 
-/// A lent length: what a plan asks for, a byte less, a little more or less, any, or the most.
+/// A lent length: what a plan asks for, a byte less, a little more or less, any, none, or the most.
 pub fn list_len(random: &mut Random, start: &Store) -> usize {
     let need = start.list_space();
-    match random.below(8) {
+    match random.below(9) {
         0..3 => need,
         3 => need.saturating_sub(1),
         4 => need + random.from_to(1, 64),
         5 => need.saturating_sub(random.from_to(2, 64)),
         6 => random.below(need + 1),
+        7 => 0,
         _ => MOST_LIST_SPACE,
     }
 }

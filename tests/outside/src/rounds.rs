@@ -1,7 +1,7 @@
 //! Rounds of random comparisons. The tests do some with fixed seeds, the executable as many as it is told.
 
 use crate::calls::Caller;
-use crate::{checks, inputs};
+use crate::{checks, expected, inputs};
 use halyard_model::{Random, image, play};
 
 /// A pair of stores through the yes or no, the plan, and the replay of what was planned.
@@ -45,17 +45,21 @@ pub fn replay(caller: &mut Caller, random: &mut Random) {
     checks::replay(caller, &image, &list, out_len);
 }
 
-/// A plan into space of each length around the limit, and as long as the list itself is.
+/// Goals that can be reached, that can't, and any, each planned into space of each length around the limit, none, and as long as the list itself is.
 pub fn list_lengths(caller: &mut Caller, random: &mut Random) {
     let start = inputs::store(random);
-    let goal = random.reachable_goal(&start);
-    let (start_image, goal_image) = (image::write(&start), image::write(&goal));
+    let mut goals = vec![random.reachable_goal(&start), inputs::goal(random, &start)];
+    goals.extend(random.unreachable_goal(&start));
     let need = start.list_space();
-    let planned = caller.plan(&start_image, &goal_image, need);
-    let count = planned.answer.count as usize;
-    let around = need.saturating_sub(3)..need + 4;
-    for list_len in around.chain([0, count, count + 1]) {
-        checks::plan(caller, &start_image, &goal_image, list_len, 0);
+    let from = image::write(&start);
+    for goal in goals {
+        let to = image::write(&goal);
+        let number = expected::reachable(&from, &to);
+        let count = caller.plan(&from, &to, need).answer.count as usize;
+        let around = need.saturating_sub(3)..need + 4;
+        for list_len in around.chain([0, count, count + 1]) {
+            checks::plan(caller, &from, &to, list_len, number);
+        }
     }
 }
 

@@ -96,14 +96,6 @@ fn list_space() {
     assert_eq!(caller().plan(&start, &no, 23).answer, Answer::of(9, 0));
 }
 
-/// 10 is given before 15 by a plan, and never by a yes or no.
-#[test]
-fn short_space_and_no_way() {
-    let (start, goal) = (bytes("1x2: [1 2]"), bytes("1x2: [2 1]"));
-    assert_eq!(caller().plan(&start, &goal, 31).answer, Answer::of(10, 0));
-    assert_eq!(caller().plan(&start, &goal, 32).answer, Answer::of(15, 0));
-}
-
 /// A replay's 10 comes before any lift is tried, and after the faults of reading.
 #[test]
 fn short_space_for_a_replay() {
@@ -119,9 +111,12 @@ fn short_space_for_a_replay() {
 fn null_with_length_0() {
     let empty = bytes("3x3: [] [] []");
     let store = bytes("3x1: [1] [2] []");
+    let shafts = [bytes("1x2: [1 2]"), bytes("1x2: [2 1]")];
     let mut out = vec![0xAA; store.len()];
     let (image, len) = (store.as_ptr(), store.len());
     let (none, none_len) = (empty.as_ptr(), empty.len());
+    let [one, other] = [shafts[0].as_ptr(), shafts[1].as_ptr()];
+    let one_len = shafts[0].len();
     // SAFETY: every pointer has as many bytes as are named, NULL none, and `out` overlaps nothing.
     unsafe {
         assert_eq!(c::halyard_check(null(), 0), 2);
@@ -131,6 +126,8 @@ fn null_with_length_0() {
         let none_planned = c::halyard_plan(none, none_len, none, none_len, null_mut(), 0);
         assert_eq!(none_planned, 0);
         assert_eq!(c::halyard_plan(image, len, image, len, null_mut(), 0), 10);
+        let no_way = c::halyard_plan(one, one_len, other, one_len, null_mut(), 0);
+        assert_eq!(no_way, 15);
         assert_eq!(c::halyard_plan(null(), 0, null(), 0, null_mut(), 0), 2);
         assert_eq!(c::halyard_replay(null(), 0, null(), 0, null_mut(), 0), 2);
         assert_eq!(c::halyard_replay(image, len, null(), 0, null_mut(), 0), 10);

@@ -43,7 +43,8 @@ fn replays() {
 #[test]
 fn list_lengths() {
     let caller = rounds(24, 1_000, rounds::list_lengths);
-    met(&caller, &[0, 10], 1_000);
+    met(&caller, &[0, 10, 15], 1_000);
+    met(&caller, &[8, 9], 300);
 }
 
 #[test]
@@ -70,10 +71,16 @@ fn every_length() {
         (4, 2, 6, 2),
     ] {
         let start = random.store_with_blanks(m, h, n, blanks);
-        let goal = random.reachable_goal(&start);
-        let (from, to) = (image::write(&start), image::write(&goal));
-        for list_len in 0..start.list_space() + 20 {
-            checks::plan(&mut caller, &from, &to, list_len, 0);
+        let from = image::write(&start);
+        let mut goals = vec![(random.reachable_goal(&start), 0)];
+        goals.extend(random.unreachable_goal(&start).map(|goal| (goal, 15)));
+        goals.push((random.store_with_blanks(m, h, n - 1, 0), 9));
+        goals.push((random.in_shape(m + 1, h, &start), 8));
+        for (goal, number) in goals {
+            let to = image::write(&goal);
+            for list_len in 0..start.list_space() + 20 {
+                checks::plan(&mut caller, &from, &to, list_len, number);
+            }
         }
         let list = inputs::legal_list(&mut random, &start, 5);
         for out_len in 0..from.len() + 20 {

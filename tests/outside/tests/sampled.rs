@@ -32,7 +32,7 @@ fn compare_goals(caller: &mut Caller, start: &Store, search: &Search, goals: &[S
         let number = if search.reaches(goal) { 0 } else { 15 };
         let to = image::write(goal);
         checks::reachable(caller, &from, &to, number);
-        checks::plan(caller, &from, &to, start.list_space(), number);
+        checks::plans(caller, start, goal, number);
     }
 }
 

@@ -32,7 +32,7 @@ fn compare_all_pairs(caller: &mut Caller, m: usize, h: usize, cassettes: &[u8]) 
             assert_eq!(rule::reachable(start, goal), yes, "{start:?} {goal:?}");
             let number = if yes { 0 } else { 15 };
             checks::reachable(caller, from, to, number);
-            checks::plan(caller, from, to, start.list_space(), number);
+            checks::plans(caller, start, goal, number);
         }
     }
     stores.len()

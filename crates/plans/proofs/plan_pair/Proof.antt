@@ -1,61 +1,75 @@
--- `plan_pair` meets its contract: 10 by the list space, 15 by the rule, or the list made.
+-- `plan_pair` meets its contract: 15 by the rule, 10 by the list space, or the list made.
 use borrow.Author.Needs.{needs}
-use borrow.Author.Tests.{not-true, not-false}
+use borrow.Author.Tests.{ltb-true, ltb-false, not-true, not-false}
 use mathlib.Core.Path.{_≡_}
-use Prim.Native.Nat.{_≤_}
+use Prim.Native.Nat.{ℕ, _≤_}
 use native.Mathlib.Omega.{arith}
 use lib.ListN.{length}
+use Rattle.stacks.specs.Deciding.{Decides}
 use Rattle.store.specs.Slots.{listSpace}
-use Rattle.plans.proofs.PlanAnswers.{counted-few, space-counted, refused-as, not-by-rule, listed-made}
+use Rattle.store.specs.Lists.{Reachable}
+use Rattle.reach.proofs.RuleTests.{by-rule}
+use Rattle.plans.proofs.PlanAnswers.{counted-few, space-counted, answered-as, refused-as, lists-made}
 use Rattle.plans.proofs.plan_pair.Statement.{statement}
 use Rattle.plans.proofs.plan_pair.Tie as tie
 
--- the number that the lent space is compared with is the list space
-space : (c : tie.After-list-space) → c .list-space .result ≡ listSpace (c .before .before .args .start)
-space c = space-counted _ _ _ (c .before .before .pre .1) (c .list-space .ensures)
-
-enough : (c : tie.Else1) → listSpace (c .before .before .before .args .start) ≤ length (c .before .before .before .args .out .now)
-enough c = omega (arith, space (c .before), c .if1 .left)
-
 list-space-requires : tie.Need-list-space-requires
 list-space-requires c κs =
-    let f = counted-few _ _ (c .before .pre .0) in
-    ((f .0, f .1), omega (arith, c .before .pre .1, f .2))
+    let s = c .before .before in
+    let f = counted-few _ _ (s .pre .0) in
+    ((f .0, f .1), omega (arith, s .pre .1, f .2))
+
+-- what was asked: whether the goal can be reached, and how much list space is needed
+module _ (c : tie.After-list-space) where
+  reach : Decides (c .before .rule-holds .result) (Reachable (c .before .before .before .args .start) (c .before .before .before .args .goal))
+  reach = by-rule _ _ (c .before .before .before .pre .0) (c .before .rule-holds .ensures)
+
+  space : c .list-space .result ≡ listSpace (c .before .before .before .args .start)
+  space = space-counted _ _ _ (c .before .before .before .pre .1) (c .list-space .ensures)
+
+  abbrev lent : ℕ
+  lent = length (c .before .before .before .args .out .now)
 
 returns : tie.Need-returns
 returns c =
     let r = c .before .before in
     let w = r .before .before in
-    let s = w .before .before .before in
-    refused-as (s .args .start) (s .args .goal) (s .args .out .now) _ (r .refused .ensures) (s .pre .0, omega (arith, space (w .before), w .if1 .taken)) (λ u. u)
-
-rule-holds-requires : tie.Need-rule-holds-requires
-rule-holds-requires c κs = c .before .before .before .pre
+    let s = w .before .before .before .before in
+    refused-as (s .args .start) (s .args .goal) (s .args .out .now) _ (r .refused .ensures)
+    (s .pre .0, reach (w .before) .not-so (not-true _ (w .if1 .taken))) (λ u. u)
 
 returns-2 : tie.Need-returns-2
 returns-2 c =
     let r = c .before .before in
     let w = r .before .before in
-    let e = w .before .before in
-    let s = e .before .before .before in
+    let q = w .before .before in
+    let s = q .before .before .before in
     refused-as (s .args .start) (s .args .goal) (s .args .out .now) _ (r .refused2 .ensures)
-    (not-by-rule (s .args .start) (s .args .goal) (s .args .out .now) (s .pre .0) (enough e) (w .before .rule-holds .ensures .not-so (not-true _ (w .if2 .taken)))) (λ u. u)
+    (s .pre .0, (reach q .so (not-false _ (w .before .if1 .left)), omega (arith, space q, ltb-true (lent q) (q .list-space .result) (w .if2 .taken))))
+    (λ u. u)
+
+enough : (c : tie.Else2) → listSpace (c .before .before .before .before .before .args .start) ≤ lent (c .before .before)
+enough c =
+    let q = c .before .before in
+    omega (arith, space q, ltb-false (lent q) (q .list-space .result) (c .if2 .left))
 
 make-requires : tie.Need-make-requires
 make-requires c κs =
-    let r = c .before in
-    let e = r .before .before in
-    let s = e .before .before .before in
-    (s .pre .0, (r .before .rule-holds .ensures .so (not-false _ (r .if2 .left)), enough e))
+    let e = c .before in
+    let q = e .before .before in
+    (q .before .before .before .pre .0, (q .before .rule-holds .ensures .so (not-false _ (e .before .if1 .left)), enough e))
 
 returns-3 : tie.Need-returns-3
 returns-3 c =
     let m = c .before .before .before in
-    let e = m .before .before .before .before in
-    listed-made _ _ _ (e .before .before .before .pre .0) (enough e) _ (c .listed .ensures) (m .make .ensures)
+    let e = m .before .before in
+    let q = e .before .before in
+    let s = q .before .before .before in
+    answered-as (s .args .start) (s .args .goal) (s .args .out .now) _ (c .listed .ensures)
+    (s .pre .0, (reach q .so (not-false _ (e .before .if1 .left)), enough e)) (lists-made _ _ _ (m .make .ensures))
 
 pub plan-pair-spec : {M : Type 1} → statement M
 plan-pair-spec =
     tie.close
-    (tie.spec list-space-requires (λ c κs. search needs) (λ c. search needs) returns rule-holds-requires (λ c κs. search needs)
+    (tie.spec (λ c κs. search needs) list-space-requires (λ c κs. search needs) (λ c. search needs) returns (λ c κs. search needs)
     (λ c. search needs) returns-2 make-requires (λ c κs. search needs) (λ c. search needs) returns-3)
