@@ -237,12 +237,12 @@ static void refusals(const struct image *start, const struct image *goal)
     static const uint8_t list[] = {0x01, 0x10, 0x11};
     struct image image = pack(2, 4, other_order);
 
-    printf("\nA goal out of reach, however much is lent\n");
+    printf("\nA goal out of reach, with nothing lent\n");
     print_store("goal", &image);
     reachable(start, &image);
     planned_into_nothing(start, &image);
 
-    printf("\nA goal within reach, and no space for the list\n");
+    printf("\nA goal within reach, with nothing lent\n");
     planned_into_nothing(start, goal);
 
     printf("\nAn image without its last byte\n");

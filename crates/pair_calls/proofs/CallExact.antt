@@ -132,3 +132,11 @@ module _ {a b came out : List ℕ} {r : ℕ} (p : PlanCallIs a b came r out) whe
 
       pub little-called : Reachable (storeIn a) (storeIn b) → length came < listSpace (storeIn a) → r % 256 ≡ 10
       little-called l h = called PlanAnswer.LittleSpace (c, (l, h))
+
+-- the number of a plan of two images into so much space is one
+pub one-plan-call : {a b came out written : List ℕ} {r q : ℕ} → PlanCallIs a b came r out → PlanCallIs a b came q written → r % 256 ≡ q % 256
+one-plan-call {a} {b} u v =
+    elim (ℕ-discrete (readFaults a b) 0) [
+      | yes z ↦ (let g = v .answered z in called u z (g .planned .answer) (g .is .answer) ∙ sym (number-of v g .0))
+      | no n ↦ ap (λ (k : ℕ). k % 256) (u .unread n .0 ∙ sym (v .unread n .0))
+    ]

@@ -1,4 +1,5 @@
-// The list maker (document 01, "Which goals can be reached", "Which comes first"): a list of lifts that leads from start to goal.
+// The list maker (document 01, "Which goals can be reached", "Which comes first", and request 6/13): a list of lifts that leads from start
+// to goal.
 use pairs::Pair;
 use pairs::compare;
 use plans::PlanAnswer;

@@ -1,3 +1,4 @@
 pub mod FifteenFirst
+pub mod ListSpace
 pub mod PlanAnswers
 pub mod PlanExact

@@ -1,29 +1,13 @@
 -- The answers of the list maker by what was found: a refusal, and a list.
 use mathlib.Core.List.{List}
-use mathlib.Core.Path.{_≡_, refl, _∙_}
-use Prim.Native.Nat.{ℕ, _≤_, _<_}
+use mathlib.Core.Path.{_≡_, refl}
+use Prim.Native.Nat.{ℕ}
 use native.Mathlib.Omega.{arith}
-use lib.ListN.{length}
-use Rattle.stacks.specs.Count.{greatest}
-use Rattle.lifts.specs.Lifting.{slotCount}
 use Rattle.store.specs.declared.Store.{Store}
-use Rattle.store.specs.Slots.{depth, deepest, cassetteCount, listSpace}
-use Rattle.depths.specs.Depths.{DepthsFit, spaceFor}
-use Rattle.store.proofs.Acceptance.{accepted-sound, accepted-most}
-use Rattle.reach.specs.Pairs.{Comparable}
 use Rattle.plans.specs.declared.PlanAnswer.{PlanAnswer}
 use Rattle.plans.specs.declared.Planned.{Planned}
 use Rattle.making.specs.Made.{MadeIs}
 use Rattle.plans.specs.Promises.{PlanSays, Lists, Untouched, PlanLeaves, PlanIs, RefusedPlan}
-
--- stores that can be compared have few rows and few cassettes
-pub counted-few : (s t : Store) → Comparable s t → (0 < s .m) × DepthsFit (s .h) × (cassetteCount s ≤ slotCount)
-counted-few s t p = let a = accepted-sound s (p .start) in (a .some-shaft, a .shaped .rows, accepted-most s (p .start))
-
--- the list space as the code counts it
-pub space-counted : (s : Store) (n k : ℕ) → n ≡ cassetteCount s → k ≡ spaceFor (greatest (s .m) (depth s)) n → k ≡ listSpace s
-unfolding listSpace deepest
-space-counted s n k f g = g ∙ rw f
 
 module _ (s t : Store) (came : List ℕ) where
   -- an answer that is right, with the lent bytes as they should be

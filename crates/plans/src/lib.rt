@@ -6,7 +6,10 @@ use pairs::PairFault;
 use rules::rule_holds;
 use store::Store;
 ghost use mathlib.Core.Path.{_≡_};
-ghost use Rattle.store.specs.Slots.{cassetteCount};
+ghost use Prim.Native.Nat.{_<_};
+ghost use Rattle.stacks.specs.Deciding.{Decides};
+ghost use Rattle.store.specs.Accept.{Accepted};
+ghost use Rattle.store.specs.Slots.{cassetteCount, listSpace};
 ghost use Rattle.reach.specs.Pairs.{Comparable};
 ghost use Rattle.plans.specs.Promises.{RefusedPlan, PlanIs};
 
@@ -40,6 +43,15 @@ fn listed(count: usize) -> Planned
     }
 }
 
+// Whether less than the list space is lent for a plan from a store that holds n cassettes.
+fn too_little(lent: usize, start: Store, n: usize) -> bool
+    requires { ⌜ Accepted start ⌝ }
+    requires { ⌜ n ≡ cassetteCount start ⌝ }
+    ensures { λ r. ⌜ Decides r (lent < listSpace start) ⌝ }
+{
+    lent < list_space(start.m, start.h, n)
+}
+
 // For two stores that can be compared, and hold n cassettes: 15, 10, or the list.
 pub fn plan_pair(start: Store, goal: Store, n: usize, out: &mut [u8]) -> Planned
     requires { ⌜ Comparable start goal ⌝ }
@@ -47,7 +59,7 @@ pub fn plan_pair(start: Store, goal: Store, n: usize, out: &mut [u8]) -> Planned
     ensures { λ r. ⌜ PlanIs start goal (now (out .entry)) (now (out .exit)) r ⌝ }
 {
     let reachable = rule_holds(start, goal, n);
-    let little = out.len() < list_space(start.m, start.h, n);
+    let little = too_little(out.len(), start, n);
     if !reachable {
         return refused(PlanAnswer::Unreachable, out);
     }

@@ -87,6 +87,7 @@ fn every_length() {
             checks::replay(&mut caller, &from, &list, out_len);
         }
     }
+    met(&caller, &[0, 8, 9, 10, 15], 100);
 }
 
 /// Images of small stores and of the largest, with and without blanks.

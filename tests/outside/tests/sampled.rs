@@ -141,6 +141,6 @@ fn every_goal_is_reached(start: &str, count: usize) {
     for goal in goals {
         let to = image::write(&goal);
         checks::reachable(&mut caller, &from, &to, 0);
-        checks::plan(&mut caller, &from, &to, start.list_space(), 0);
+        checks::plans(&mut caller, &start, &goal, 0);
     }
 }

@@ -1,5 +1,5 @@
 //! Too little space, or impossible (request 6/13): cases with the answers written out, each into no space, one byte, a byte less than
-//! the list space, as much, a byte more, and the most.
+//! the list space, as much, a byte more, the most that any store asks for, and more than 16 bits can count.
 
 use halyard_model::{image, text};
 use halyard_outside::calls::{Answer, Caller};
@@ -10,15 +10,28 @@ fn bytes(store: &str) -> Vec<u8> {
     image::write(&text::read(store).unwrap())
 }
 
-/// The numbers that a plan gives by the length lent, where this much is needed. What has no list has count 0 and leaves every byte.
-fn numbers(start: &[u8], goal: &[u8], need: usize) -> [u8; 6] {
-    [0, 1, need - 1, need, need + 1, MOST_LIST_SPACE].map(|list_len| {
-        let planned = Caller::new(61, GUARD).plan(start, goal, list_len);
-        let Answer { number, count } = planned.answer;
-        assert!(number == 0 || count == 0, "{list_len} bytes");
-        assert!(planned.space.kept_but(count as usize), "{list_len} bytes");
-        number
-    })
+/// The number that a plan gives into space of this length. What has no list has count 0 and leaves every byte.
+fn number(start: &[u8], goal: &[u8], list_len: usize) -> u8 {
+    let planned = Caller::new(61, GUARD).plan(start, goal, list_len);
+    let Answer { number, count } = planned.answer;
+    assert!(number == 0 || count == 0, "{list_len} bytes");
+    assert!(planned.space.kept_but(count as usize), "{list_len} bytes");
+    number
+}
+
+/// The numbers for each length, where this much is needed: three of too little, and five of enough.
+fn numbers(start: &[u8], goal: &[u8], need: usize) -> [u8; 8] {
+    let lengths = [
+        0,
+        1,
+        need - 1,
+        need,
+        need + 1,
+        MOST_LIST_SPACE,
+        65_536,
+        70_000,
+    ];
+    lengths.map(|list_len| number(start, goal, list_len))
 }
 
 /// "When both apply, 15 shall be given": with each rule, and with blanks.
@@ -38,7 +51,7 @@ fn out_of_reach() {
         ("3x2: [b b] [b b] [1 b]", "3x2: [b b] [b b] [b 1]", 96),
     ] {
         let answers = numbers(&bytes(start), &bytes(goal), need);
-        assert_eq!(answers, [15; 6], "{start} to {goal}");
+        assert_eq!(answers, [15; 8], "{start} to {goal}");
     }
 }
 
@@ -58,28 +71,28 @@ fn within_reach() {
         ("3x2: [b 1] [b b] []", "3x2: [b b] [1 b] []", 64),
     ] {
         let answers = numbers(&bytes(start), &bytes(goal), need);
-        assert_eq!(answers, [10, 10, 10, 0, 0, 0], "{start} to {goal}");
+        assert_eq!(answers, [10, 10, 10, 0, 0, 0, 0, 0], "{start} to {goal}");
     }
 }
 
 /// 9 and 8 come before 15, though no list leads to such a goal, and a fault of reading before all of them.
 #[test]
 fn not_to_be_compared() {
-    for (start, goal, number) in [
-        ("1x2: [1 2]", "1x2: [2 3]", 9),
-        ("1x2: [1 2]", "1x2: [2]", 9),
-        ("1x2: [1 b]", "1x2: [b b]", 9),
-        ("3x2: [1 2] [3 4] [5 6]", "3x2: [1 2] [3 4] [7 6]", 9),
-        ("1x2: [1 2]", "1x3: [2 1]", 8),
-        ("1x2: [1 2]", "2x2: [2] [3]", 8),
+    for (start, goal, need, number) in [
+        ("1x2: [1 2]", "1x2: [2 3]", 32, 9),
+        ("1x2: [1 2]", "1x2: [2]", 32, 9),
+        ("1x2: [1 b]", "1x2: [b b]", 32, 9),
+        ("3x2: [1 2] [3 4] [5 6]", "3x2: [1 2] [3 4] [7 6]", 96, 9),
+        ("1x2: [1 2]", "1x3: [2 1]", 32, 8),
+        ("1x2: [1 2]", "2x2: [2] [3]", 32, 8),
     ] {
-        let answers = numbers(&bytes(start), &bytes(goal), 32);
-        assert_eq!(answers, [number; 6], "{start} to {goal}");
+        let answers = numbers(&bytes(start), &bytes(goal), need);
+        assert_eq!(answers, [number; 8], "{start} to {goal}");
     }
     let (store, turned) = (bytes("1x2: [1 2]"), bytes("1x2: [2 1]"));
     let cut = turned.len() - 1;
-    assert_eq!(numbers(&store, &turned[..cut], 32), [2; 6]);
-    assert_eq!(numbers(&turned[..cut], &store, 32), [2; 6]);
+    assert_eq!(numbers(&store, &turned[..cut], 32), [2; 8]);
+    assert_eq!(numbers(&turned[..cut], &store, 32), [2; 8]);
 }
 
 /// Without a cassette no space is needed, and there is one goal.
@@ -87,7 +100,6 @@ fn not_to_be_compared() {
 fn no_cassette() {
     let empty = bytes("3x3: [] [] []");
     for list_len in [0, 1, MOST_LIST_SPACE] {
-        let planned = Caller::new(62, GUARD).plan(&empty, &empty, list_len);
-        assert_eq!(planned.answer, Answer::of(0, 0));
+        assert_eq!(number(&empty, &empty, list_len), 0);
     }
 }
