@@ -17,10 +17,11 @@ use Rattle.reachable.specs.Numbers.{reachNumber}
 use Rattle.reachable.specs.Promises.{ReachSays}
 use Rattle.reachable.proofs.Exact.{one-reach, yes-exactly, no-exactly, zero-is-yes, fifteen-is-no}
 use Rattle.plans.specs.declared.PlanAnswer.{PlanAnswer}
-use Rattle.plans.specs.Numbers.{planNumber}
+use Rattle.plans.specs.Numbers.{planNumber, planFault}
 use Rattle.plans.specs.Promises.{PlanSays, Lists}
-use Rattle.plans.proofs.PlanExact.{one-plan, listed-list, unlisted-untouched, zero-is-listed, ten-is-little, fifteen-is-unreachable, number-most}
-use Rattle.marks.proofs.Faulted.{first-either}
+use Rattle.plans.proofs.PlanExact.{one-plan, plan-numbered, listed-list, unlisted-untouched, zero-is-listed, ten-is-little, fifteen-is-unreachable, number-most}
+use Rattle.marks.specs.Cassettes.{first}
+use Rattle.marks.proofs.Faulted.{first-either, first-skips, first-stays}
 use Rattle.image.specs.Numbers.{ReadingGives}
 use Rattle.image.proofs.Numbers.{number-given}
 use Rattle.calls.specs.Shared.{answerOf, storeIn, readFault, readFaults}
@@ -94,19 +95,27 @@ module _ {a b came out : List ℕ} {r : ℕ} (p : PlanCallIs a b came r out) whe
       let few : g .planned .count < 2 ^ 56 = omega (arith, l .count, l .short, list-space-most _ (c .start)) in
       subst (Lists (storeIn a) (storeIn b) came out) (sym (q .1 ∙ mod-eq-of-lt few)) l
 
-  -- none exists, whatever was lent
+  -- what 15 and 10 say
+  fifteen-says : r % 256 ≡ 15 → (readFaults a b ≡ 0) × PlanSays (storeIn a) (storeIn b) came PlanAnswer.Unreachable
+  fifteen-says e =
+      let z = planned (inr (omega arith)) in
+      let g = p .answered z in
+      (z, subst (PlanSays (storeIn a) (storeIn b) came) (fifteen-is-unreachable (g .planned .answer) (sym (number-of g .0) ∙ e)) (g .is .answer))
+
+  ten-says : r % 256 ≡ 10 → (readFaults a b ≡ 0) × PlanSays (storeIn a) (storeIn b) came PlanAnswer.LittleSpace
+  ten-says e =
+      let z = planned (inr (omega arith)) in
+      let g = p .answered z in
+      let k = ten-is-little _ _ came (g .planned .answer) (g .is .answer) (sym (number-of g .0) ∙ e) in
+      (z, subst (PlanSays (storeIn a) (storeIn b) came) k (g .is .answer))
+
+  -- no list exists
   pub call-unreachable : r % 256 ≡ 15 → Reachable (storeIn a) (storeIn b) → ⊥
-  call-unreachable e =
-      let g = p .answered (planned (inr (omega arith))) in
-      let k = fifteen-is-unreachable (g .planned .answer) (sym (number-of g .0) ∙ e) in
-      subst (PlanSays (storeIn a) (storeIn b) came) k (g .is .answer) .1
+  call-unreachable e = fifteen-says e .1 .1
 
   -- one exists, and too little was lent for it
   pub call-little : r % 256 ≡ 10 → Reachable (storeIn a) (storeIn b) × (length came < listSpace (storeIn a))
-  call-little e =
-      let g = p .answered (planned (inr (omega arith))) in
-      let k = ten-is-little _ _ came (g .planned .answer) (g .is .answer) (sym (number-of g .0) ∙ e) in
-      subst (PlanSays (storeIn a) (storeIn b) came) k (g .is .answer) .1
+  call-little e = ten-says e .1 .1
 
   -- a number other than 0 counts no lift and leaves the lent bytes as they came
   pub call-untouched : (r % 256 ≡ 0 → ⊥) → (r / 256 ≡ 0) × (out ≡ came)
@@ -133,10 +142,24 @@ module _ {a b came out : List ℕ} {r : ℕ} (p : PlanCallIs a b came r out) whe
       pub little-called : Reachable (storeIn a) (storeIn b) → length came < listSpace (storeIn a) → r % 256 ≡ 10
       little-called l h = called PlanAnswer.LittleSpace (c, (l, h))
 
--- the number of a plan of two images into so much space is one
-pub one-plan-call : {a b came out written : List ℕ} {r q : ℕ} → PlanCallIs a b came r out → PlanCallIs a b came q written → r % 256 ≡ q % 256
-one-plan-call {a} {b} u v =
-    elim (ℕ-discrete (readFaults a b) 0) [
-      | yes z ↦ (let g = v .answered z in called u z (g .planned .answer) (g .is .answer) ∙ sym (number-of v g .0))
-      | no n ↦ ap (λ (k : ℕ). k % 256) (u .unread n .0 ∙ sym (v .unread n .0))
-    ]
+  -- the number of a plan is the first that applies: of reading, then of the two stores and the length lent
+  pub call-numbered : r % 256 ≡ first (readFaults a b) (planFault (storeIn a) (storeIn b) (length came))
+  call-numbered =
+      elim (ℕ-discrete (readFaults a b) 0) [
+        | yes z ↦ (let g = p .answered z in
+            number-of g .0 ∙ plan-numbered _ _ came (g .planned .answer) (g .is .answer) ∙ sym (first-skips _ _ z))
+        | no n ↦ (let k : r % 256 ≡ readFaults a b = omega (arith, p .unread n .0, faults-few a b) in k ∙ sym (first-stays _ _ n))
+      ]
+
+-- two plans of the same images
+module _ {a b came lent out written : List ℕ} {r q : ℕ} (u : PlanCallIs a b came r out) (v : PlanCallIs a b lent q written) where
+  -- as much lent gives the same number
+  pub one-plan-call : length came ≡ length lent → r % 256 ≡ q % 256
+  one-plan-call e = call-numbered u ∙ rw e (sym (call-numbered v))
+
+  -- 15 is given whatever is lent, and enough space cures 10
+  pub fifteen-stays : r % 256 ≡ 15 → q % 256 ≡ 15
+  fifteen-stays e = let w = fifteen-says u e in called v (w .0) PlanAnswer.Unreachable (w .1)
+
+  pub space-cures : r % 256 ≡ 10 → listSpace (storeIn a) ≤ length lent → q % 256 ≡ 0
+  space-cures e h = let w = ten-says u e in called v (w .0) PlanAnswer.Listed (w .1 .0, (w .1 .1 .0, h))

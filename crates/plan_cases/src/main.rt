@@ -207,22 +207,16 @@ fn space_cases(enough: &mut [u8], less: &mut [u8]) {
     show(b"start equal to goal", dealt(0), dealt(0), enough);
 }
 
-// Too little is lent, 191 bytes and then none: 15 and 9 come before 10 (request 6/13).
-fn short_cases(less: &mut [u8]) {
+// Too little is lent, so much: 15 and 9 come before 10 (request 6/13).
+fn short_cases(so_much: &[u8], less: &mut [u8]) {
+    let start = nearly_full(0);
     let goal = nearly_full(1);
-    show(
-        b"little lent, numbers one place on",
-        nearly_full(0),
-        goal,
-        less,
-    );
-    show(
-        b"little lent, one blank more",
-        nearly_full(0),
-        with(goal, 15, blank()),
-        less,
-    );
-    show(b"little lent, dealt another way", dealt(0), dealt(1), less);
+    io::write_all(STDOUT_FILENO, so_much);
+    show(b", all numbers one place on", start, goal, less);
+    io::write_all(STDOUT_FILENO, so_much);
+    show(b", one blank more", start, with(goal, 15, blank()), less);
+    io::write_all(STDOUT_FILENO, so_much);
+    show(b", dealt another way", dealt(0), dealt(1), less);
 }
 
 fn refused_cases(list: &mut [u8]) {
@@ -278,8 +272,8 @@ fn main() {
     dealt_cases(&mut enough);
     let mut less = [0u8; 191];
     space_cases(&mut enough, &mut less);
-    short_cases(&mut less);
-    short_cases(&mut less[..0]);
+    short_cases(b"191 bytes", &mut less);
+    short_cases(b"no byte", &mut less[..0]);
     refused_cases(&mut enough);
     let mut list = [0u8; 18432];
     full_cases(&mut list);

@@ -1,4 +1,4 @@
--- None of the numbers of two stores applies exactly if they are comparable.
+-- Which numbers two stores can be refused with, and that none of them applies exactly if they are comparable.
 use borrow.Author.Tests.{eq-eqb, ne-eqb, eqb-true}
 use mathlib.Core.Bool.{Bool, true, false, not, _&&_}
 use mathlib.Core.List.{List, [], _∷_}

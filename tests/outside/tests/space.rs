@@ -99,7 +99,7 @@ fn not_to_be_compared() {
 #[test]
 fn no_cassette() {
     let empty = bytes("3x3: [] [] []");
-    for list_len in [0, 1, MOST_LIST_SPACE] {
+    for list_len in [0, 1, MOST_LIST_SPACE, 65_536, 70_000] {
         assert_eq!(number(&empty, &empty, list_len), 0);
     }
 }

@@ -35,7 +35,7 @@ returns-2 c =
     let q = w .before .before in
     let s = q .before .before .before in
     refused-as (s .args .start) (s .args .goal) (s .args .out .now) _ (r .refused2 .ensures)
-    (s .pre .0, (reach q .so (not-false _ (w .before .if1 .left)), q .too-little .ensures .so (w .if2 .taken))) (λ u. u)
+    (s .pre .0, (reach q .so (not-false _ (w .before .if1 .left)), omega (arith, q .too-little .ensures .so (w .if2 .taken)))) (λ u. u)
 
 enough : (c : tie.Else2)
     → listSpace (c .before .before .before .before .before .args .start) ≤ length (c .before .before .before .before .before .args .out .now)
