@@ -180,6 +180,8 @@ uint64_t halyard_reachable(const uint8_t *start, size_t start_len,
  * HALYARD_UNREACHABLE does not depend on list_len, which may be 0: no list of
  * lifts leads to the goal, however much is lent. HALYARD_SPACE says that one
  * does: the same call with HALYARD_LIST_SPACE(h, n) bytes gives a list.
+ * (Proved: fifteen-stays and space-cures, in
+ * crates/pair_calls/proofs/CallExact.antt.)
  */
 uint64_t halyard_plan(const uint8_t *start, size_t start_len,
                       const uint8_t *goal, size_t goal_len,
