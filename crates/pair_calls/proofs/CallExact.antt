@@ -1,6 +1,6 @@
 -- What the numbers of the calls say, back from the answer to the fact: for images that are read and stores that can be compared the yes or no gives 0
 -- exactly if the goal can be reached and 15 exactly if not; so does a plan, but for 10 where the goal can be reached and less than the list space is lent.
--- A plan of number 0 has its list in the first bytes, any other has written nothing, and two plans of the same images differ by the length lent alone.
+-- A plan of number 0 has its list in the first bytes, any other has written nothing, and the numbers of two plans of the same images differ by the length lent alone.
 use mathlib.Core.List.{List}
 use mathlib.Core.Logic.{_⊎_, inl, inr, ⊎-elim}
 use mathlib.Core.Path.{_≡_, sym, ap, _∙_, subst}
