@@ -32,23 +32,23 @@ faults-few : (a b : List ℕ) → readFaults a b ≤ 7
 faults-few a b =
     ⊎-elim (λ h. omega arith) (λ e. omega arith) (first-either ReadingGives (readFault a) (readFault b) (number-given a) (number-given b))
 
-module _ {a b : List ℕ} {r : ℕ} (p : ReachCallIs a b r) where
-  -- a number that no fault of reading has is the answer on the stores
-  answered : (r ≡ 0) ⊎ (7 < r) → readFaults a b ≡ 0
-  answered w =
-      elim (ℕ-discrete (readFaults a b) 0) [
-        | yes z ↦ z
-        | no n ↦ absurd (⊎-elim (λ e. n (sym (p .unread n) ∙ e)) (λ h. omega (arith, p .unread n, faults-few a b)) w)
-      ]
+-- a number that is the fault of reading where there is one: if no fault has it, both images are read
+read-by-number : (a b : List ℕ) {k : ℕ} → ((readFaults a b ≡ 0 → ⊥) → k ≡ readFaults a b) → (k ≡ 0) ⊎ (7 < k) → readFaults a b ≡ 0
+read-by-number a b u w =
+    elim (ℕ-discrete (readFaults a b) 0) [
+      | yes z ↦ z
+      | no n ↦ absurd (⊎-elim (λ e. n (sym (u n) ∙ e)) (λ h. omega (arith, u n, faults-few a b)) w)
+    ]
 
+module _ {a b : List ℕ} {r : ℕ} (p : ReachCallIs a b r) where
   pub call-yes : r ≡ 0 → Reachable (storeIn a) (storeIn b)
   call-yes e =
-      let g = p .answered (answered (inl e)) in
+      let g = p .answered (read-by-number a b (p .unread) (inl e)) in
       subst (ReachSays (storeIn a) (storeIn b)) (zero-is-yes (g .answer) (sym (g .number) ∙ e)) (g .says) .1
 
   pub call-no : r ≡ 15 → Reachable (storeIn a) (storeIn b) → ⊥
   call-no e =
-      let g = p .answered (answered (inr (omega arith))) in
+      let g = p .answered (read-by-number a b (p .unread) (inr (omega arith))) in
       subst (ReachSays (storeIn a) (storeIn b)) (fifteen-is-no (g .answer) (sym (g .number) ∙ e)) (g .says) .1
 
   module _ (z : readFaults a b ≡ 0) (c : Comparable (storeIn a) (storeIn b)) where
@@ -72,13 +72,8 @@ low-byte : (count number r : ℕ) → number < 256 → r ≡ answerOf count numb
 low-byte count number r h e = (omega arith, omega arith)
 
 module _ {a b came out : List ℕ} {r : ℕ} (p : PlanCallIs a b came r out) where
-  planned : (r % 256 ≡ 0) ⊎ (7 < r % 256) → readFaults a b ≡ 0
-  planned w =
-      elim (ℕ-discrete (readFaults a b) 0) [
-        | yes z ↦ z
-        | no n ↦
-            absurd (⊎-elim (λ e. n (omega (arith, p .unread n .0, faults-few a b))) (λ h. omega (arith, p .unread n .0, faults-few a b)) w)
-      ]
+  fault-of : (readFaults a b ≡ 0 → ⊥) → r % 256 ≡ readFaults a b
+  fault-of n = omega (arith, p .unread n .0, faults-few a b)
 
   number-of : (g : PlanGives (storeIn a) (storeIn b) came out r)
       → (r % 256 ≡ planNumber (g .planned .answer)) × (r / 256 ≡ g .planned .count % 2 ^ 56)
@@ -87,7 +82,7 @@ module _ {a b came out : List ℕ} {r : ℕ} (p : PlanCallIs a b came r out) whe
   -- the first r / 256 bytes are a list that leads from start to goal
   pub call-listed : r % 256 ≡ 0 → Lists (storeIn a) (storeIn b) came out (r / 256)
   call-listed e =
-      let g = p .answered (planned (inl e)) in
+      let g = p .answered (read-by-number a b fault-of (inl e)) in
       let q = number-of g in
       let k = zero-is-listed (g .planned .answer) (sym (q .0) ∙ e) in
       let l = listed-list _ _ _ _ (g .planned) (g .is) k in
@@ -98,13 +93,13 @@ module _ {a b came out : List ℕ} {r : ℕ} (p : PlanCallIs a b came r out) whe
   -- what 15 and 10 say
   fifteen-says : r % 256 ≡ 15 → (readFaults a b ≡ 0) × PlanSays (storeIn a) (storeIn b) came PlanAnswer.Unreachable
   fifteen-says e =
-      let z = planned (inr (omega arith)) in
+      let z = read-by-number a b fault-of (inr (omega arith)) in
       let g = p .answered z in
       (z, subst (PlanSays (storeIn a) (storeIn b) came) (fifteen-is-unreachable (g .planned .answer) (sym (number-of g .0) ∙ e)) (g .is .answer))
 
   ten-says : r % 256 ≡ 10 → (readFaults a b ≡ 0) × PlanSays (storeIn a) (storeIn b) came PlanAnswer.LittleSpace
   ten-says e =
-      let z = planned (inr (omega arith)) in
+      let z = read-by-number a b fault-of (inr (omega arith)) in
       let g = p .answered z in
       let k = ten-is-little _ _ came (g .planned .answer) (g .is .answer) (sym (number-of g .0) ∙ e) in
       (z, subst (PlanSays (storeIn a) (storeIn b) came) k (g .is .answer))
@@ -148,7 +143,7 @@ module _ {a b came out : List ℕ} {r : ℕ} (p : PlanCallIs a b came r out) whe
       elim (ℕ-discrete (readFaults a b) 0) [
         | yes z ↦ (let g = p .answered z in
             number-of g .0 ∙ plan-numbered _ _ came (g .planned .answer) (g .is .answer) ∙ sym (first-skips _ _ z))
-        | no n ↦ (let k : r % 256 ≡ readFaults a b = omega (arith, p .unread n .0, faults-few a b) in k ∙ sym (first-stays _ _ n))
+        | no n ↦ fault-of n ∙ sym (first-stays _ _ n)
       ]
 
 -- two plans of the same images

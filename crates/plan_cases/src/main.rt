@@ -207,7 +207,7 @@ fn space_cases(enough: &mut [u8], less: &mut [u8]) {
     show(b"start equal to goal", dealt(0), dealt(0), enough);
 }
 
-// Too little is lent, so much: 15 and 9 come before 10 (request 6/13).
+// Too little is lent, as `so_much` says: 15 and 9 come before 10 (request 6/13).
 fn short_cases(so_much: &[u8], less: &mut [u8]) {
     let start = nearly_full(0);
     let goal = nearly_full(1);
