@@ -21,11 +21,11 @@ SameBelow a b x k = (j : ℕ) → j < k → getD a (16 * x + j) 0 ≡ getD b (16
 module _ (a b : List ℕ) (x : ℕ) where
   rows-agree : (k : ℕ) → SameBelow a b x k → rowsDown a x k ≡ rowsDown b x k
   unfolding shown
-  rows-agree k e = same-rows (held 0 0 [] a) (held 0 0 [] b) x k e
+  rows-agree k e = same-rows (held 0 [] [] a) (held 0 [] [] b) x k e
 
   agree-row : (n k : ℕ) → rowsDown a x n ≡ rowsDown b x n → k < n → getD a (16 * x + k) 0 ≡ getD b (16 * x + k) 0
   unfolding shown
-  agree-row n k e h = rows-same (held 0 0 [] a) (held 0 0 [] b) x n k e h
+  agree-row n k e h = rows-same (held 0 [] [] a) (held 0 [] [] b) x n k e h
 
   -- stopped at a row that differs
   pub agree-stopped : (most k : ℕ) → k < most → SameBelow a b x k → (getD a (16 * x + k) 0 ≡ getD b (16 * x + k) 0 → ⊥) → AgreeIs a b x most k

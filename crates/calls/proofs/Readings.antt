@@ -6,7 +6,7 @@ use Rattle.store.specs.declared.Store.{Store}
 use Rattle.store.specs.Accept.{Accepted}
 use Rattle.image.specs.Reading.{readImage}
 use Rattle.image.proofs.Nexts.{accepted}
-use Rattle.image.proofs.RoundTrip.{read-written}
+use Rattle.image.proofs.RoundTrip.{read-image}
 use Rattle.calls.specs.declared.One.{One}
 use Rattle.calls.specs.declared.Both.{Both}
 use Rattle.calls.specs.Shared.{storeIn, readFault, goalAfter, OneIs, BothAre}
@@ -20,7 +20,7 @@ pub record Stands (a : List ℕ) (s : Store) : Type 0 where
 
 -- a store that an accepted image stands for is accepted as a value
 pub stood-accepted : (a : List ℕ) → ((i : ℕ) → getD a i 0 < 256) → readFault a ≡ 0 → Accepted (storeIn a)
-stood-accepted a small e = read-written a (storeIn a) small (λ i. record { store = storeIn a; number = e i }) .0
+stood-accepted a small e = read-image a (storeIn a) small (λ i. record { store = storeIn a; number = e i }) .sound
 
 pub one-read : (a : List ℕ) {s : Store} {k : ℕ} → s ≡ storeIn a → k ≡ readFault a → ((i : ℕ) → getD a i 0 < 256) → OneIs a (record { number = k; store = s })
 one-read a p e small = record { number = e; store = p; accepted = λ z. subst Accepted (sym p) (stood-accepted a small (sym e ∙ z)) }

@@ -19,7 +19,7 @@ pub fn refused(number: u8, out: &mut [u8]) -> u64
     number as u64
 }
 
-// An image that was read: the number that refuses it, 0 for none, and its store, the empty one of m 1, h 1 where it is refused.
+// An image that was read: the number that refuses it, 0 for none, and its store, the empty one of one shaft of depth 1 where it is refused.
 pub struct One {
     pub number: u8,
     pub store: Store,

@@ -24,7 +24,7 @@ use Rattle.reach.specs.Rules.{twoShaftReading, floor}
 use Rattle.reach.specs.Tests.{ruleTest}
 use Rattle.reach.proofs.RuleTests.{list-test, store-test, reachable-test}
 use Rattle.reach.proofs.Sets.{comparable}
-use Rattle.cases.specs.Claims.{Claim, liftGets, yesBy, unreachable, pairGets, spaceIs, readingGets, imageIs, ClaimHolds, AllHold}
+use Rattle.cases.specs.Claims.{Claim, liftGets, yesBy, unreachable, pairGets, spaceIs, readingGets, imageIs, imageBecomes, ClaimHolds, AllHold}
 use Rattle.cases.specs.Table.{table}
 use Rattle.cases.specs.Tests.{readAlike, tested, allTested}
 
@@ -55,6 +55,9 @@ holds (readingGets bytes k) e = read-alike _ _ e
 holds (imageIs bytes s) e =
     let p = both-true (readAlike (readImage bytes) (record { store = s; number = 0 })) _ e in
     (read-alike _ _ (p .0), list-test (imageOf s) bytes .so (p .1))
+holds (imageBecomes bytes s written) e =
+    let p = both-true (readAlike (readImage bytes) (record { store = s; number = 0 })) _ e in
+    (read-alike _ _ (p .0), list-test (imageOf s) written .so (p .1))
 
 all-hold : (cs : List Claim) → allTested cs ≡ true → AllHold cs
 unfolding allTested

@@ -19,14 +19,18 @@ abbrev pub joined : List (List ℕ) → List ℕ
 joined [] = []
 joined (l ∷ ls) = padded 16 l ++ joined ls
 
--- the store of depth h with these shafts, "bottom first"
-abbrev pub storeOf : ℕ → List (List ℕ) → Store
-storeOf h shafts = record {
+-- the store with these depths and these shafts, "bottom first"
+abbrev pub unevenOf : List ℕ → List (List ℕ) → Store
+unevenOf depths shafts = record {
   m = length shafts;
-  h = h;
+  depths = padded 16 depths;
   heights = padded 16 (map length shafts);
   slots = padded 256 (joined shafts);
 }
+
+-- the same with one depth h for all
+abbrev pub storeOf : ℕ → List (List ℕ) → Store
+storeOf h shafts = unevenOf (replicate (length shafts) h) shafts
 
 pub data Claim : Type 0 where
   -- a lift between two shafts of a store gets a number
@@ -43,6 +47,8 @@ pub data Claim : Type 0 where
   readingGets : List ℕ → ℕ → Claim
   -- an image is read as a store, which is written as that image
   imageIs : List ℕ → Store → Claim
+  -- an image is read as a store, which is written as another image
+  imageBecomes : List ℕ → Store → List ℕ → Claim
 
 abbrev pub ClaimHolds : Claim → Type 0
 ClaimHolds (liftGets s a b k) = liftNumber s a b ≡ k
@@ -52,6 +58,7 @@ ClaimHolds (pairGets s t k) = pairFault s t ≡ k
 ClaimHolds (spaceIs s k) = listSpace s ≡ k
 ClaimHolds (readingGets bytes k) = readImage bytes ≡ refused k
 ClaimHolds (imageIs bytes s) = (readImage bytes ≡ record { store = s; number = 0 }) × (imageOf s ≡ bytes)
+ClaimHolds (imageBecomes bytes s written) = (readImage bytes ≡ record { store = s; number = 0 }) × (imageOf s ≡ written)
 
 -- every claim of a list holds
 abbrev pub AllHold : List Claim → Type 0

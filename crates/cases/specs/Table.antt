@@ -1,10 +1,11 @@
--- The cases that document 01 marks to be proved, "Filled stores to try", and some with blanks (request 5/13), one row for each claim.
+-- The cases that document 01 marks to be proved, "Filled stores to try", some with blanks (request 5/13), and some with unequal depths (request 7/13), one row
+-- for each claim.
 use mathlib.Core.List.{List, [], _∷_}
 use Prim.Native.Nat.{ℕ}
 use lib.ListN.{replicate}
 use Rattle.marks.specs.Cassettes.{blank}
 use Rattle.store.specs.declared.Store.{Store}
-use Rattle.cases.specs.Claims.{Claim, liftGets, yesBy, unreachable, pairGets, spaceIs, readingGets, imageIs, storeOf}
+use Rattle.cases.specs.Claims.{Claim, liftGets, yesBy, unreachable, pairGets, spaceIs, readingGets, imageIs, imageBecomes, unevenOf, storeOf}
 
 -- "m 3, h 3, no cassette"
 abbrev pub bare : Store
@@ -93,6 +94,30 @@ threeBlankFewer = storeOf 2 ((blank ∷ 1 ∷ []) ∷ (blank ∷ []) ∷ (2 ∷ 
 abbrev pub allBlank : Store
 allBlank = storeOf 16 (replicate 16 (replicate 16 blank))
 
+-- three shafts of depths 3, 2 and 2, e 2: row 1 of shaft 0 never changes, and no other; that row equal, and changed
+abbrev pub uneven : Store
+uneven = unevenOf (3 ∷ 2 ∷ 2 ∷ []) ((1 ∷ 2 ∷ 3 ∷ []) ∷ (4 ∷ []) ∷ (5 ∷ []) ∷ [])
+
+abbrev pub unevenMixed : Store
+unevenMixed = unevenOf (3 ∷ 2 ∷ 2 ∷ []) ((1 ∷ 3 ∷ []) ∷ (2 ∷ 4 ∷ []) ∷ (5 ∷ []) ∷ [])
+
+abbrev pub unevenChanged : Store
+unevenChanged = unevenOf (3 ∷ 2 ∷ 2 ∷ []) ((4 ∷ 2 ∷ 3 ∷ []) ∷ (1 ∷ []) ∷ (5 ∷ []) ∷ [])
+
+-- the same cassettes, the last shaft deeper
+abbrev pub unevenDeeper : Store
+unevenDeeper = unevenOf (3 ∷ 2 ∷ 3 ∷ []) ((1 ∷ 2 ∷ 3 ∷ []) ∷ (4 ∷ []) ∷ (5 ∷ []) ∷ [])
+
+-- two shafts of depths 3 and 1, the same reading, and another
+abbrev pub twoUneven : Store
+twoUneven = unevenOf (3 ∷ 1 ∷ []) ((1 ∷ 2 ∷ []) ∷ (3 ∷ []) ∷ [])
+
+abbrev pub twoUnevenShifted : Store
+twoUnevenShifted = unevenOf (3 ∷ 1 ∷ []) ((1 ∷ 2 ∷ 3 ∷ []) ∷ [] ∷ [])
+
+abbrev pub twoUnevenTurned : Store
+twoUnevenTurned = unevenOf (3 ∷ 1 ∷ []) ((1 ∷ 3 ∷ 2 ∷ []) ∷ [] ∷ [])
+
 abbrev pub table : List Claim
 table =
     yesBy bare [] bare
@@ -128,4 +153,22 @@ table =
     -- "A store may now hold 256 cassettes .. and the program lends 18,432 bytes"
     ∷ yesBy allBlank [] allBlank
     ∷ spaceIs allBlank 18432
+    -- two and three shafts of unequal depth
+    ∷ yesBy twoUneven (0x10 ∷ []) twoUnevenShifted
+    ∷ unreachable twoUneven twoUnevenTurned
+    ∷ yesBy uneven (0x01 ∷ 0x02 ∷ 0x10 ∷ 0x10 ∷ 0x21 ∷ 0x01 ∷ []) unevenMixed
+    ∷ unreachable uneven unevenChanged
+    -- "In 4hn + 8n, h is the deepest shaft", "8 is given if any depth differs"
+    ∷ spaceIs uneven 100
+    ∷ pairGets uneven unevenDeeper 8
+    -- "3, 12 and 14 use the shaft's own depth"
+    ∷ liftGets twoUneven 0 1 14
+    ∷ liftGets twoUneven 1 0 0
+    ∷ liftGets (unevenOf (17 ∷ 1 ∷ []) ((1 ∷ 2 ∷ []) ∷ (3 ∷ []) ∷ [])) 1 0 12
+    ∷ liftGets (unevenOf (3 ∷ 1 ∷ 1 ∷ []) ((1 ∷ 2 ∷ []) ∷ (3 ∷ []) ∷ [])) 1 0 12
+    ∷ readingGets (0x11 ∷ 0x20 ∷ 0x00 ∷ 0x80 ∷ 0x40 ∷ 0x80 ∷ []) 3
+    -- an image in form 1, the example in form 1, which "becomes the form 0 image of that store", and form 2
+    ∷ imageIs (0x12 ∷ 0x21 ∷ 0x80 ∷ 0x81 ∷ 0x01 ∷ 0x88 ∷ 0x41 ∷ 0x04 ∷ 0x20 ∷ 0xA0 ∷ []) uneven
+    ∷ imageBecomes (0x12 ∷ 0x11 ∷ 0x00 ∷ 0x81 ∷ 0x08 ∷ 0x04 ∷ 0x20 ∷ 0x60 ∷ []) example (0x02 ∷ 0x11 ∷ 0x00 ∷ 0x81 ∷ 0x00 ∷ 0x20 ∷ 0x60 ∷ [])
+    ∷ readingGets (0x22 ∷ 0x11 ∷ 0x00 ∷ 0x81 ∷ 0x08 ∷ 0x04 ∷ 0x20 ∷ 0x60 ∷ []) 1
     ∷ []

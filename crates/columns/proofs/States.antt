@@ -1,19 +1,20 @@
 -- Laws of the state of a reading, for any part: nothing read, one part after another, a field and then a part, a fault met, and a fault kept.
+use mathlib.Core.Bool.{Bool}
 use mathlib.Core.List.{List}
 use mathlib.Core.Path.{_≡_, refl, sym, ap, _∙_}
 use Prim.Native.Nat.{ℕ, _+_}
 use native.Mathlib.Omega.{arith}
 use Rattle.marks.specs.Marking.{Marked}
 use Rattle.store.specs.declared.Store.{Store}
-use Rattle.image.specs.Reading.{Rest, Part, refused, unless, next}
+use Rattle.image.specs.Reading.{Rest, Part, refused, unless, nextIf}
 use Rattle.fields.specs.declared.Cursor.{Cursor}
 use Rattle.columns.specs.Columns.{Work, Reads}
-use Rattle.fields.specs.Cursors.{left, FieldIs}
+use Rattle.fields.specs.Cursors.{left, FieldIfIs}
 use Rattle.fields.proofs.Cursors.{unless-one, both-refused}
 
--- the next field of n bits, and then a part that goes by its value
-abbrev pub fieldThen : ℕ → (ℕ → Part) → Part
-fieldThen n part b s l c = next n l (λ v r. part v b s r c)
+-- a field of n bits that is there or has the value v, and then a part that goes by it
+abbrev pub fieldThen : Bool → ℕ → ℕ → (ℕ → Part) → Part
+fieldThen there n v part b s l c = nextIf there n v l (λ u r. part u b s r c)
 
 -- the state of a store, marks and a cursor
 abbrev from : Store → List ℕ → Cursor → Work
@@ -36,12 +37,12 @@ module _ (bytes : List ℕ) where
     within = omega (arith, x .within, y .within);
   }
 
-  pub reads-field : (n : ℕ) (part : ℕ → Part) (s : Store) (words : List ℕ) {far : ℕ} {c r : Cursor} {q : Work} → FieldIs bytes n c r
-      → Reads bytes (part (r .value)) far (from s words r) q → Reads bytes (fieldThen n part) (n + far) (from s words c) q
-  reads-field n part s words f x = record {
+  pub reads-field : (there : Bool) (n v : ℕ) (part : ℕ → Part) (s : Store) (words : List ℕ) {far : ℕ} {c r : Cursor} {q : Work} → FieldIfIs bytes there n v c r
+      → Reads bytes (part (r .value)) far (from s words r) q → Reads bytes (fieldThen there n v part) (n + far) (from s words c) q
+  reads-field there n v part s words f x = record {
     after = λ before m.
         let p = x .after before m in
-        record { seen = p .seen; marks = p .marks; same = λ k. f .same (λ v l. part v before s l k) ∙ p .same k };
+        record { seen = p .seen; marks = p .marks; same = λ k. f .same (λ u l. part u before s l k) ∙ p .same k };
     within = omega (arith, f .within, x .within);
   }
 

@@ -1,8 +1,11 @@
-// The shafts of an image (document 01, "The image": "for each shaft from 0 its height (5) and its cassettes from row 1 upward (8 each)"), read into lent arrays.
-use depths::depth_of;
+// The shafts of an image (document 01, "The image"; document 02, 7/13: "for each shaft its depth − 1 (4 bits), height (5) and cassettes"), read into lent arrays.
+use depths::Depths;
 use fields::Cursor;
+use fields::Head;
+use fields::field_if;
 use fields::next_field;
 use fields::stopped;
+use forms::own_depths;
 use lifts::Heights;
 use lifts::Slots;
 use marks::Taken;
@@ -11,9 +14,8 @@ use marks::take;
 ghost use Prim.Native.Nat.{_≤_, _<_};
 ghost use Rattle.marks.specs.Cassettes.{numbers};
 ghost use Rattle.lifts.specs.Lifting.{mostShafts, mostRows};
-ghost use Rattle.depths.specs.Depths.{DepthsFit};
 ghost use Rattle.image.specs.Image.{cassetteWidth};
-ghost use Rattle.columns.specs.Columns.{CassetteRead, RowsRead, ColumnRead, ShaftsRead};
+ghost use Rattle.columns.specs.Columns.{CassetteRead, RowsRead, ColumnRead, ShaftRead, ShaftsRead};
 
 // The field just read is a cassette, at row k + 1 of shaft x.
 fn take_cassette(slots: &mut Slots, marks: &mut Words, c: Cursor, x: usize, k: usize) -> Cursor
@@ -55,49 +57,76 @@ fn read_rows(
     c
 }
 
-// The field just read is the height of shaft x, and its rows come next.
+// The field just read is the height of shaft x, of depth d, and its rows come next.
 fn read_column(
     image: &[u8],
     c: Cursor,
-    h: u8,
+    d: u8,
     heights: &mut Heights,
     slots: &mut Slots,
     marks: &mut Words,
     x: usize,
 ) -> Cursor
-    requires { ⌜ (x < mostShafts) × DepthsFit h ⌝ }
+    requires { ⌜ (x < mostShafts) × (d ≤ mostRows) ⌝ }
     requires { ⌜ (c .at ≤ 8000) × (c .value < 256) ⌝ }
-    ensures { λ r. ⌜ ColumnRead (now (image .entry)) h x (now (heights .entry)) (now (slots .entry)) (now (marks .entry)) c (now (heights .exit)) (now (slots .exit)) (now (marks .exit)) r ⌝ }
+    ensures { λ r. ⌜ ColumnRead (now (image .entry)) d x (now (heights .entry)) (now (slots .entry)) (now (marks .entry)) c (now (heights .exit)) (now (slots .exit)) (now (marks .exit)) r ⌝ }
 {
     if c.fault != 0 {
         return c;
     }
     let rows = c.value as u8;
-    if depth_of(h, x) < rows {
+    if d < rows {
         return stopped(c, 3);
     }
     heights[x] = rows;
     read_rows(image, c, slots, marks, x, rows as usize)
 }
 
-// The shafts below m, each with its height and then its rows.
+// Shaft x: its depth, where it has its own, its height, and its rows.
+fn read_shaft(
+    image: &[u8],
+    c: Cursor,
+    head: Head,
+    depths: &mut Depths,
+    heights: &mut Heights,
+    slots: &mut Slots,
+    marks: &mut Words,
+    x: usize,
+) -> Cursor
+    requires { ⌜ (x < mostShafts) × (head .depth < mostRows) × (c .at ≤ 7000) ⌝ }
+    ensures { λ r. ⌜ ShaftRead (now (image .entry)) head x (now (depths .entry)) (now (heights .entry)) (now (slots .entry)) (now (marks .entry)) c (now (depths .exit)) (now (heights .exit)) (now (slots .exit)) (now (marks .exit)) r ⌝ }
+{
+    let depth = field_if(image, own_depths(head.form), c, 4, head.depth);
+    let d = depth.value as u8 + 1;
+    depths[x] = d;
+    read_column(
+        image,
+        next_field(image, depth, 5),
+        d,
+        heights,
+        slots,
+        marks,
+        x,
+    )
+}
+
+// The shafts below m, from the head on.
 pub fn read_shafts(
     image: &[u8],
-    start: Cursor,
-    m: u8,
-    h: u8,
+    head: Head,
+    depths: &mut Depths,
     heights: &mut Heights,
     slots: &mut Slots,
     marks: &mut Words,
 ) -> Cursor
-    requires { ⌜ (m ≤ mostShafts) × DepthsFit h × (start .at ≤ 100) ⌝ }
-    ensures { λ r. ⌜ ShaftsRead (now (image .entry)) m h m (now (heights .entry)) (now (slots .entry)) (now (marks .entry)) start (now (heights .exit)) (now (slots .exit)) (now (marks .exit)) r ⌝ }
+    requires { ⌜ (head .m ≤ mostShafts) × (head .depth < mostRows) × (head .cursor .at ≤ 100) ⌝ }
+    ensures { λ r. ⌜ ShaftsRead (now (image .entry)) head (head .m) (now (depths .entry)) (now (heights .entry)) (now (slots .entry)) (now (marks .entry)) (now (depths .exit)) (now (heights .exit)) (now (slots .exit)) (now (marks .exit)) r ⌝ }
 {
-    let shafts = m as usize;
-    let mut c = start;
+    let shafts = head.m as usize;
+    let mut c = head.cursor;
     let mut x: usize = 0;
     while x < shafts {
-        c = read_column(image, next_field(image, c, 5), h, heights, slots, marks, x);
+        c = read_shaft(image, c, head, depths, heights, slots, marks, x);
         x += 1;
     }
     c

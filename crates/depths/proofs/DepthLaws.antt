@@ -1,20 +1,17 @@
--- The depths of a frame that is in range, and back.
+-- The depths past the end of their list, and lists of equal depths.
+use mathlib.Core.List.{List}
+use mathlib.Core.Path.{_≡_, sym, _∙_}
 use Prim.Native.Nat.{ℕ, _≤_, _<_}
-use Rattle.lifts.specs.Lifting.{mostRows}
+use native.Mathlib.Omega.{arith}
+use lib.ListN.{length, List·getD-eq-default}
+use lib.Seq.{ext-getD}
+use Rattle.lifts.specs.Lifting.{mostShafts}
 use Rattle.depths.specs.Depths.{depthBy}
 
-pub depth-some : (h x : ℕ) → 0 < h → 0 < depthBy h x
+pub depth-past : (depths : List ℕ) (x : ℕ) → length depths ≤ x → depthBy depths x ≡ 0
 unfolding depthBy
-depth-some h x i = i
+depth-past depths x h = List·getD-eq-default depths 0 h
 
-pub depth-most : (h x : ℕ) → h ≤ mostRows → depthBy h x ≤ mostRows
+pub depths-same : (a b : List ℕ) → length a ≡ mostShafts → length b ≡ mostShafts → ((x : ℕ) → x < mostShafts → depthBy a x ≡ depthBy b x) → a ≡ b
 unfolding depthBy
-depth-most h x i = i
-
-pub depth-least : (h x : ℕ) → 0 < depthBy h x → 0 < h
-unfolding depthBy
-depth-least h x i = i
-
-pub rows-most : (h x : ℕ) → depthBy h x ≤ mostRows → h ≤ mostRows
-unfolding depthBy
-rows-most h x i = i
+depths-same a b p q h = ext-getD 0 a b (p ∙ sym q) (λ i k. h i (omega arith))

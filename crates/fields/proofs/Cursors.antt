@@ -1,22 +1,22 @@
--- Fields as the code reads them, of any width: a fault kept, a field missing, a field there; and the form.
-use borrow.Author.Tests.{eq-eqb, ne-eqb}
+-- Fields as the code reads them, of any width: a fault kept, a field missing, a field there; a field that is there or not; and the form.
+use borrow.Author.Tests.{lt-ltb, le-ltb}
+use mathlib.Core.Bool.{true, false, not}
 use mathlib.Core.List.{List}
 use mathlib.Core.Path.{_≡_, refl, sym, ap, _∙_}
-use Prim.Native.Nat.{ℕ, zero, suc, _+_}
+use Prim.Native.Nat.{ℕ, zero, suc, _+_, _^_, _≤_, _<_}
 use native.Mathlib.Omega.{arith}
 use lib.ListN.{drop}
 use lib.Pow.{pow-pos}
 use lib.Seq.{drop-drop}
-use Rattle.depths.proofs.DepthLaws.{depth-most}
 use Rattle.bits.specs.declared.Field.{Field}
 use Rattle.bits.specs.declared.Field.the-variants.{Value, Missing}
 use Rattle.bits.specs.Fields.{bitsOf, nextField}
 use Rattle.bits.proofs.Places.{there}
 use Rattle.bits.proofs.Widths.{field-lt}
-use Rattle.image.specs.Image.{formWidth, frameWidth}
-use Rattle.image.specs.Reading.{Reading, emptyStore, refused, unless, fromField, next, readBody, readDepth, readSize, readForm, readImage}
+use Rattle.image.specs.Image.{formWidth, frameWidth, lastForm, ownDepths}
+use Rattle.image.specs.Reading.{Reading, emptyStore, noDepths, refused, unless, fromField, next, readBody, readDepth, readSize, readForm, readImage}
 use Rattle.fields.specs.declared.Cursor.{Cursor}
-use Rattle.fields.specs.Cursors.{left, FieldIs, FormIs, HeadIs}
+use Rattle.fields.specs.Cursors.{left, FieldIs, FieldIfIs, FormIs, HeadIs}
 
 pub unless-one : (k : ℕ) (r : Reading) → (k ≡ 0 → ⊥) → unless k r ≡ refused k
 unless-one zero r h = absurd (h refl)
@@ -53,28 +53,36 @@ module _ (bytes : List ℕ) (n : ℕ) (c : Cursor) where
       within = omega arith;
     }
 
--- "1. Form isn't 0."
-module _ (c : Cursor) where
+-- a field that is there or not
+pub if-there : {bytes : List ℕ} {n v : ℕ} {c r : Cursor} → FieldIs bytes n c r → FieldIfIs bytes true n v c r
+if-there f = record { same = f .same; small = f .small; within = f .within }
+
+pub if-not : (bytes : List ℕ) (n v : ℕ) (c : Cursor) → v < 2 ^ n → FieldIfIs bytes false n v c (record { at = c .at; value = v; fault = c .fault })
+if-not bytes n v c h = record { same = λ k. refl; small = h; within = omega arith }
+
+-- "Number 1 now covers forms above 1" (document 02, 7/13)
+module _ (c : Cursor) (small : c .value < 2 ^ formWidth) where
   pub form-kept : (c .fault ≡ 0 → ⊥) → FormIs c c
-  form-kept h = record { same = λ l. both-refused (c .fault) _ _ h; place = refl }
+  form-kept h = record { same = λ l. both-refused (c .fault) _ _ h; small = small; place = refl }
 
   module _ (e : c .fault ≡ 0) where
-    pub form-refused : (c .value ≡ 0 → ⊥) → FormIs c (stop c 1)
-    form-refused n = record { same = λ l. simp (e, ne-eqb (c .value) 0 n); place = refl }
+    pub form-refused : lastForm < c .value → FormIs c (stop c 1)
+    form-refused n = record { same = λ l. simp (e, lt-ltb lastForm (c .value) n); small = pow-pos formWidth; place = refl }
 
-    pub form-taken : c .value ≡ 0 → FormIs c c
-    form-taken z = record { same = λ l. simp (e, eq-eqb (c .value) 0 z); place = refl }
+    pub form-taken : c .value ≤ lastForm → FormIs c c
+    form-taken z = record { same = λ l. simp (e, le-ltb lastForm (c .value) z); small = small; place = refl }
 
--- the form, m - 1 and h - 1, one after the other
-pub head-read : {bytes : List ℕ} {form checked size depth : Cursor} → FieldIs bytes formWidth (record { at = 0; value = 0; fault = 0 }) form → FormIs form checked
-    → FieldIs bytes frameWidth checked size → FieldIs bytes frameWidth size depth → HeadIs bytes (record { m = size .value + 1; h = depth .value + 1; cursor = depth })
+-- the form, m − 1 and where no shaft has its own the depth − 1, one after the other
+pub head-read : {bytes : List ℕ} {form named size depth : Cursor} → FieldIs bytes formWidth (record { at = 0; value = 0; fault = 0 }) form → FormIs form named
+    → FieldIs bytes frameWidth named size → FieldIfIs bytes (not (ownDepths (named .value))) frameWidth 0 size depth
+    → HeadIs bytes (record { form = named .value; m = size .value + 1; depth = depth .value; cursor = depth })
 unfolding readImage
-head-read {bytes} {form} {checked} {size} {depth} f q m h = record {
+head-read {bytes} {form} {named} {size} {depth} f q m h = record {
   same =
       f .same readForm ∙ q .same (left bytes (form .at))
-      ∙ ap (λ (k : ℕ). unless (checked .fault) (readSize (left bytes k))) (sym (q .place))
-      ∙ m .same readDepth ∙ h .same (λ n l. readBody (emptyStore (size .value + 1) (n + 1)) l);
+      ∙ ap (λ (k : ℕ). unless (named .fault) (readSize (named .value) (left bytes k))) (sym (q .place))
+      ∙ m .same (readDepth (named .value)) ∙ h .same (λ v l. readBody (named .value) v (emptyStore (size .value + 1) noDepths) l);
   shafts = omega (arith, m .small);
-  rows = λ x. depth-most (depth .value + 1) x (omega (arith, h .small));
+  rows = h .small;
   within = omega (arith, f .within, q .place, m .within, h .within);
 }

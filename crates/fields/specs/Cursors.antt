@@ -4,11 +4,11 @@ use mathlib.Core.List.{List}
 use mathlib.Core.Path.{_≡_}
 use Prim.Native.Nat.{ℕ, _+_, _^_, _≤_, _<_}
 use lib.ListN.{drop}
-use Rattle.lifts.specs.Lifting.{mostShafts}
+use Rattle.lifts.specs.Lifting.{mostShafts, mostRows}
 use Rattle.store.specs.declared.Store.{Store}
-use Rattle.depths.specs.Depths.{DepthsFit}
 use Rattle.bits.specs.Fields.{bitsOf}
-use Rattle.image.specs.Reading.{Reading, emptyStore, unless, next, finish, readForm, readSize, readBody, readImage}
+use Rattle.image.specs.Image.{formWidth}
+use Rattle.image.specs.Reading.{Reading, emptyStore, noDepths, unless, next, nextIf, finish, readForm, readSize, readBody, readImage}
 use Rattle.fields.specs.declared.Cursor.{Cursor}
 use Rattle.fields.specs.declared.Head.{Head}
 
@@ -22,16 +22,23 @@ pub record FieldIs (bytes : List ℕ) (n : ℕ) (c r : Cursor) : Type 0 where
   pub small : r .value < 2 ^ n
   pub within : r .at ≤ c .at + n
 
+-- The same for a field that is there or else has the value v.
+pub record FieldIfIs (bytes : List ℕ) (there : Bool) (n v : ℕ) (c r : Cursor) : Type 0 where
+  pub same : (k : ℕ → List Bool → Reading) → unless (c .fault) (nextIf there n v (left bytes (c .at)) k) ≡ unless (r .fault) (k (r .value) (left bytes (r .at)))
+  pub small : r .value < 2 ^ n
+  pub within : r .at ≤ c .at + n
+
 -- The form took the cursor from c to r.
 pub record FormIs (c r : Cursor) : Type 0 where
-  pub same : (l : List Bool) → unless (c .fault) (readForm (c .value) l) ≡ unless (r .fault) (readSize l)
+  pub same : (l : List Bool) → unless (c .fault) (readForm (c .value) l) ≡ unless (r .fault) (readSize (r .value) l)
+  pub small : r .value < 2 ^ formWidth
   pub place : r .at ≡ c .at
 
 -- The fields before the first shaft were read.
 pub record HeadIs (bytes : List ℕ) (r : Head) : Type 0 where
-  pub same : readImage bytes ≡ unless (r .cursor .fault) (readBody (emptyStore (r .m) (r .h)) (left bytes (r .cursor .at)))
+  pub same : readImage bytes ≡ unless (r .cursor .fault) (readBody (r .form) (r .depth) (emptyStore (r .m) noDepths) (left bytes (r .cursor .at)))
   pub shafts : r .m ≤ mostShafts
-  pub rows : DepthsFit (r .h)
+  pub rows : r .depth < mostRows
   pub within : r .cursor .at ≤ 12
 
 -- the first fault of a reading that came to its end, or its store

@@ -2,12 +2,14 @@
 // cursor keeps it, and the parts after it change nothing.
 use bits::Field;
 use bits::read_field;
+use forms::own_depths;
 ghost use mathlib.Core.Path.{_≡_};
-ghost use Prim.Native.Nat.{_≤_, _<_};
+ghost use Prim.Native.Nat.{_^_, _≤_, _<_};
 ghost use lib.ListN.{drop};
 ghost use Rattle.bits.specs.Fields.{bitsOf};
+ghost use Rattle.image.specs.Image.{formWidth};
 ghost use Rattle.image.specs.Reading.{padding};
-ghost use Rattle.fields.specs.Cursors.{FieldIs, FormIs, HeadIs, EndIs};
+ghost use Rattle.fields.specs.Cursors.{FieldIs, FieldIfIs, FormIs, HeadIs, EndIs};
 
 // The bit position, the field just read, and the number of the first fault met, 0 for none.
 pub struct Cursor {
@@ -44,6 +46,22 @@ pub fn next_field(image: &[u8], c: Cursor, w: usize) -> Cursor
     }
 }
 
+// The next field of w bits where it is there, else the value v.
+pub fn field_if(image: &[u8], there: bool, c: Cursor, w: usize, v: u16) -> Cursor
+    requires { ⌜ (0 < w) × (w ≤ 16) × (c .at ≤ 9000) ⌝ }
+    requires { ⌜ v < 2 ^ w ⌝ }
+    ensures { λ r. ⌜ FieldIfIs (now (image .entry)) there w v c r ⌝ }
+{
+    if there {
+        return next_field(image, c, w);
+    }
+    Cursor {
+        at: c.at,
+        value: v,
+        fault: c.fault,
+    }
+}
+
 // Whether the bits from a position on are zero bits to the end of a byte.
 fn padded(image: &[u8], at: usize) -> bool
     ensures { λ r. ⌜ r ≡ padding (drop at (bitsOf (now (image .entry)))) ⌝ }
@@ -76,27 +94,29 @@ pub fn finished(image: &[u8], c: Cursor) -> Cursor
     c
 }
 
-// The field just read is the form: 1 for another than 0.
+// The field just read is the form: 1 for one above 1.
 fn check_form(c: Cursor) -> Cursor
+    requires { ⌜ c .value < 2 ^ formWidth ⌝ }
     ensures { λ r. ⌜ FormIs c r ⌝ }
 {
     if c.fault != 0 {
         return c;
     }
-    if c.value != 0 {
+    if c.value > 1 {
         return stopped(c, 1);
     }
     c
 }
 
-// m and h, and where the first shaft begins.
+// The form, m, and in form 0 the depth − 1 of all shafts; and where the first shaft begins.
 pub struct Head {
+    pub form: u8,
     pub m: u8,
-    pub h: u8,
+    pub depth: u16,
     pub cursor: Cursor,
 }
 
-// The form, m - 1 and h - 1.
+// The form, m − 1, and where no shaft has its own the depth − 1.
 pub fn read_head(image: &[u8]) -> Head
     ensures { λ r. ⌜ HeadIs (now (image .entry)) r ⌝ }
 {
@@ -105,12 +125,14 @@ pub fn read_head(image: &[u8]) -> Head
         value: 0,
         fault: 0,
     };
-    let form = check_form(next_field(image, start, 4));
-    let size = next_field(image, form, 4);
-    let depth = next_field(image, size, 4);
+    let named = check_form(next_field(image, start, 4));
+    let form = named.value as u8;
+    let size = next_field(image, named, 4);
+    let depth = field_if(image, !own_depths(form), size, 4, 0);
     Head {
+        form,
         m: size.value as u8 + 1,
-        h: depth.value as u8 + 1,
+        depth: depth.value,
         cursor: depth,
     }
 }

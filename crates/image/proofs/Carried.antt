@@ -1,5 +1,5 @@
 -- The round trips, carried to the two functions by their contracts: what `write` left is read by `read` as the same store, and what `read` accepted
--- is written by `write` as the same bytes.
+-- is written by `write` as the same bytes, but for a form 1 image with equal depths (document 02, 7/13).
 use mathlib.Core.Bool.{Bool}
 use mathlib.Core.List.{List, _++_}
 use mathlib.Core.Path.{_≡_, refl, sym, ap, _∙_}
@@ -19,7 +19,7 @@ use Rattle.image.specs.Reading.{Reading, readImage}
 use Rattle.image.specs.Writing.{writeRefusal, WriteIs}
 use Rattle.image.proofs.Nexts.{accepted}
 use Rattle.image.proofs.Refused.{not-refused}
-use Rattle.image.proofs.RoundTrip.{written-read, read-written}
+use Rattle.image.proofs.RoundTrip.{written-read, read-image, Rewritten, own-bytes}
 
 pub length-bytes : (k : ℕ) (l : List Bool) → length (bytesOf k l) ≡ k
 unfolding bytesOf
@@ -29,7 +29,7 @@ length-bytes (suc k) l = ap suc (length-bytes k (drop 8 l))
 module _ (s : Store) (out next : List ℕ) (w : Written) (p : WriteIs s out next w) where
   -- the first bytes are the image
   image-first : writeRefusal s (length out) ≡ 0 → take (w .count) next ≡ imageOf s
-  unfolding imageOf
+  unfolding imageOf imageLength
   image-first e =
       let n : w .count ≡ imageLength s = rw e at (p .count) in
       let b : next ≡ imageOf s ++ drop (imageLength s) out = rw e at (p .bytes) in
@@ -44,11 +44,13 @@ module _ (s : Store) (out next : List ℕ) (w : Written) (p : WriteIs s out next
       let f : readImage (take (w .count) next) ≡ accepted s = ap readImage (image-first e) ∙ written-read s (first-none (storeFault s) _ e .0) in
       (q .store ∙ ap (λ (o : Reading). o .store) f, q .answer .has ∙ ap (λ (o : Reading). o .number) f)
 
--- an image that was accepted is written as the same bytes
+-- an image that was accepted is written as the image of its store, which are the same bytes but for a form 1 image with equal depths
 pub read-then-written : (bytes out next : List ℕ) (r : Read) (w : Written) → ((i : ℕ) → getD bytes i 0 < 256) → ReadIs (readImage bytes) r
-    → readNumber (r .answer) ≡ 0 → imageLength (r .store) ≤ length out → WriteIs (r .store) out next w → (writeNumber (w .answer) ≡ 0) × (take (w .count) next ≡ bytes)
+    → readNumber (r .answer) ≡ 0 → imageLength (r .store) ≤ length out → WriteIs (r .store) out next w
+    → (writeNumber (w .answer) ≡ 0) × (take (w .count) next ≡ imageOf (r .store)) × ((Rewritten bytes (r .store) → ⊥) → take (w .count) next ≡ bytes)
 read-then-written bytes out next r w small q z room p =
     let f : readImage bytes ≡ accepted (r .store) = λ i. record { store = sym (q .store) i; number = (sym (q .answer .has) ∙ z) i } in
-    let a = read-written bytes (r .store) small f in
-    let e : writeRefusal (r .store) (length out) ≡ 0 = not-refused (r .store) out (a .0) room in
-    (p .answer .has ∙ e, image-first (r .store) out next w p e ∙ a .1)
+    let a = read-image bytes (r .store) small f in
+    let e : writeRefusal (r .store) (length out) ≡ 0 = not-refused (r .store) out (a .sound) room in
+    let g = image-first (r .store) out next w p e in
+    (p .answer .has ∙ e, g, λ n. g ∙ own-bytes bytes (r .store) a n)

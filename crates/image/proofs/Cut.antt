@@ -9,6 +9,7 @@ use lib.Seq.{take-suc, take-all, take-take, take-append-le, take-set-le, length-
 use Rattle.marks.proofs.MarkLaws.{zeros}
 use Rattle.lifts.specs.Lifting.{mostShafts, slotCount, shown}
 use Rattle.store.specs.declared.Store.{Store}
+use Rattle.store.specs.Slots.{held}
 use Rattle.rows.specs.Rows.{rowsUp}
 
 abbrev pub cutAt : ℕ → ℕ → List ℕ → List ℕ
@@ -72,6 +73,10 @@ unfolding rowsUp
 rows-agree a b x zero h = refl
 rows-agree a b x (suc k) h = rw (rows-agree a b x k (λ j p. h j (omega arith)), h k (omega arith))
 
--- the store with its first i heights and its first p slots
+-- the store with its first i depths and heights and its first p slots
 abbrev pub cut : Store → ℕ → ℕ → Store
-cut s i p = record { m = s .m; h = s .h; heights = cutAt mostShafts i (s .heights); slots = cutAt slotCount p (s .slots) }
+cut s i p = held (s .m) (cutAt mostShafts i (s .depths)) (cutAt mostShafts i (s .heights)) (cutAt slotCount p (s .slots))
+
+-- stores whose arrays are the same
+pub held-same : (m : ℕ) {a b c d e f : List ℕ} → a ≡ b → c ≡ d → e ≡ f → held m a c e ≡ held m b d f
+held-same m p q r = λ i. held m (p i) (q i) (r i)

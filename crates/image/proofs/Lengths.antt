@@ -1,37 +1,49 @@
--- How long an image is: 12 bits, 5 for each shaft and 8 for each cassette (document 01, "The image"); "the longest image has 268 bytes" (request 5/13).
+-- How long an image is: 8 bits, 4 for each depth that it names, 5 for each shaft and 8 for each cassette (document 01, "The image"; document 02, 7/13); "the longest
+-- image now has 275 bytes".
+use mathlib.Core.Bool.{Bool, true, false, cond, not}
 use mathlib.Core.List.{List}
-use mathlib.Core.Path.{_≡_, refl, _∙_}
+use mathlib.Core.Path.{_≡_, refl, sym, ap, _∙_}
 use Prim.Native.Nat.{ℕ, zero, suc, _+_, _*_, _/_, _≤_, _<_}
 use native.Mathlib.Decide.{decLt}
 use native.Mathlib.Nat.{not-suc-le-zero}
 use native.Mathlib.Omega.{arith}
 use lib.ListN.{length, length-append}
+use Rattle.bits.specs.Fields.{byteCount}
 use Rattle.bits.proofs.Widths.{length-bits, length-packed}
 use Rattle.stacks.specs.Count.{sum}
 use Rattle.lifts.specs.Lifting.{heightIn}
 use Rattle.store.specs.declared.Store.{Store}
 use Rattle.rows.proofs.Upward.{rows-length}
-use Rattle.store.specs.Slots.{height, cassetteCount}
+use Rattle.store.specs.Slots.{SameFrame, height, cassetteCount}
 use Rattle.store.specs.Accept.{Accepted}
 use Rattle.store.proofs.Acceptance.{accepted-shaped, accepted-most}
 use Rattle.store.proofs.Counted.{heights-counted}
-use Rattle.image.specs.Image.{heightWidth, cassetteWidth, headBits, columnBits, columnsBits, shaftsBits, imageBits, imageLength}
+use Rattle.image.specs.Image.{frameWidth, heightWidth, cassetteWidth, ownDepths, depthFields, fieldIf, headBits, columnBits, columnsBits, shaftsBits, imageBits, lengthIn, formOf, imageLength}
+use Rattle.image.proofs.Forms.{form-frame}
 
-pub length-head : (s : Store) → length (headBits s) ≡ 12
+-- how many bits a field of w bits takes that is there or not
+abbrev pub widthIf : Bool → ℕ → ℕ
+widthIf there w = cond there w 0
+
+pub length-if : (there : Bool) (w v : ℕ) → length (fieldIf there w v) ≡ widthIf there w
+length-if true w v = length-bits w v
+length-if false w v = refl
+
+pub length-head : (f : ℕ) (s : Store) → length (headBits f s) ≡ 8 + widthIf (not (ownDepths f)) frameWidth
 unfolding headBits
-length-head s = simp (length-append, length-bits)
+length-head f s = simp (length-append, length-bits, length-if)
 
-module _ (heights slots : List ℕ) where
-  pub length-shaft : (x : ℕ) → length (columnBits heights slots x) ≡ heightWidth + cassetteWidth * heightIn heights x
+module _ (f : ℕ) (depths heights slots : List ℕ) where
+  pub length-shaft : (x : ℕ) → length (columnBits f depths heights slots x) ≡ widthIf (ownDepths f) frameWidth + heightWidth + cassetteWidth * heightIn heights x
   unfolding columnBits
-  length-shaft x = simp (length-append, length-bits heightWidth (heightIn heights x), length-packed, rows-length) (omega arith)
+  length-shaft x = simp (length-append, length-bits heightWidth (heightIn heights x), length-if, length-packed, rows-length) (omega arith)
 
-  pub length-more : (x : ℕ) → length (columnsBits heights slots (suc x)) ≡ length (columnsBits heights slots x) + (heightWidth + cassetteWidth * heightIn heights x)
+  length-more : (x : ℕ) → length (columnsBits f depths heights slots (suc x)) ≡ length (columnsBits f depths heights slots x) + (widthIf (ownDepths f) frameWidth + heightWidth + cassetteWidth * heightIn heights x)
   unfolding columnsBits
   length-more x = rw (length-append, length-shaft x)
 
   -- the bits of a shaft below m are among those of all
-  pub shafts-within : (x m : ℕ) → x < m → length (columnsBits heights slots x) + length (columnBits heights slots x) ≤ length (columnsBits heights slots m)
+  pub shafts-within : (x m : ℕ) → x < m → length (columnsBits f depths heights slots x) + length (columnBits f depths heights slots x) ≤ length (columnsBits f depths heights slots m)
   shafts-within x zero h = absurd (not-suc-le-zero h)
   shafts-within x (suc m) h =
       elim (decLt x m) [
@@ -39,20 +51,35 @@ module _ (heights slots : List ℕ) where
         | no k ↦ (let e : x ≡ m = omega arith in rw e (omega (arith, length-more m, length-shaft m)))
       ]
 
-length-shafts : (s : Store) (x : ℕ) → length (shaftsBits s x) ≡ heightWidth * x + cassetteWidth * sum x (height s)
+length-shafts : (f : ℕ) (s : Store) (x : ℕ) → length (shaftsBits f s x) ≡ widthIf (ownDepths f) frameWidth * x + heightWidth * x + cassetteWidth * sum x (height s)
 unfolding columnsBits sum
-length-shafts s zero = refl
-length-shafts s (suc x) = omega (arith, length-more (s .heights) (s .slots) x, length-shafts s x)
+length-shafts f s zero = omega arith
+length-shafts f s (suc x) = omega (arith, length-more f (s .depths) (s .heights) (s .slots) x, length-shafts f s x)
 
-pub length-image : (s : Store) → length (imageBits s) ≡ 12 + (5 * s .m + 8 * cassetteCount s)
+-- the depths named, in the head or before each shaft
+depths-named : (own : Bool) (m : ℕ) → widthIf (not own) frameWidth + widthIf own frameWidth * m ≡ frameWidth * cond own m 1
+depths-named true m = omega arith
+depths-named false m = omega arith
+
+pub length-image : (f : ℕ) (s : Store) → length (imageBits f s) ≡ 8 + (frameWidth * depthFields f (s .m) + (heightWidth * s .m + cassetteWidth * sum (s .m) (height s)))
 unfolding imageBits
-length-image s = length-append (headBits s) (shaftsBits s (s .m)) ∙ omega (arith, length-head s, length-shafts s (s .m), heights-counted s)
+length-image f s =
+    length-append (headBits f s) (shaftsBits f s (s .m)) ∙ omega (arith, length-head f s, length-shafts f s (s .m), depths-named (ownDepths f) (s .m))
 
--- "the longest image has 268 bytes"
-pub longest : (s : Store) → Accepted s → imageLength s ≤ 268
-unfolding imageLength
-longest s e = omega (arith, length-image s, accepted-most s e, accepted-shaped s e .shafts)
+-- an image names no more depths than it has shafts, or one
+pub few-fields : (own : Bool) (m k : ℕ) → m ≤ k → 0 < k → cond own m 1 ≤ k
+few-fields true m k h i = h
+few-fields false m k h i = i
 
-pub image-length : (s : Store) → imageLength s ≡ (12 + length (shaftsBits s (s .m)) + 7) / 8
-unfolding imageLength imageBits
-image-length s = rw (length-append, length-head s)
+-- "the longest image now has 275 bytes"
+pub longest : (f : ℕ) (s : Store) → Accepted s → lengthIn f s ≤ 275
+unfolding lengthIn
+longest f s e =
+    omega (arith, length-image f s, heights-counted s, accepted-most s e, accepted-shaped s e .shafts, few-fields (ownDepths f) (s .m) 16 (accepted-shaped s e .shafts) (omega arith))
+
+-- stores of one frame with equally many cassettes are written in equally many bytes
+pub length-frame : (s t : Store) → SameFrame s t → cassetteCount s ≡ cassetteCount t → imageLength s ≡ imageLength t
+unfolding imageLength lengthIn
+length-frame s t f e =
+    ap byteCount
+    (length-image (formOf s) s ∙ cc (f .shafts, form-frame s t f, heights-counted s, heights-counted t, e) ∙ sym (length-image (formOf t) t))

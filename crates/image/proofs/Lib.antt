@@ -1,6 +1,7 @@
 pub mod Answered
 pub mod Carried
 pub mod Cut
+pub mod Forms
 pub mod Lengths
 pub mod Nexts
 pub mod Numbers

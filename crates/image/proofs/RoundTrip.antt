@@ -1,14 +1,14 @@
--- The round trips (document 01, "The image"): a store accepted, written and read is that store; an accepted image, read and written, is those bytes.
--- So no two images stand for one store.
-use borrow.Author.Tests.{lt-ltb, ltb-true, eqb-true}
-use mathlib.Core.Bool.{Bool, true, not}
+-- The round trips (document 01, "The image"; document 02, 7/13). A store accepted, written and read is that store, in each form that can hold it. An accepted image
+-- is the image of its store in the form that it names: so read and written it is those bytes, but for a form 1 image with equal depths, which becomes the form 0
+-- image of that store.
+use borrow.Author.Tests.{lt-ltb, le-ltb, ltb-true, ltb-false, eqb-true}
+use mathlib.Core.Bool.{Bool, true, false, cond, not}
 use mathlib.Core.List.{List, [], _++_, append-nil, append-assoc}
-use mathlib.Core.Path.{_≡_, refl, sym, ap, ap₂, _∙_, subst}
+use mathlib.Core.Path.{_≡_, refl, sym, ap, _∙_, subst}
 use Prim.Native.Nat.{ℕ, suc, _+_, _-_, _*_, _/_, _%_, _≤_, _<_}
-use native.Mathlib.Decide.{decLt}
-use native.Mathlib.Nat.{zero-lt-suc}
+use native.Mathlib.Decide.{ℕ-discrete, decLt}
 use native.Mathlib.Omega.{arith}
-use lib.Dec.{eqb}
+use lib.Dec.{ltb}
 use lib.ListN.{length, getD, drop, replicate, length-append}
 use lib.Pow.{pow-pos}
 use lib.Seq.{take-all}
@@ -16,39 +16,46 @@ use Rattle.bits.specs.Fields.{bits, field, bitsOf, byteCount}
 use Rattle.bits.proofs.Widths.{length-bits, length-packed, field-bits, field-lt, bits-field}
 use Rattle.bits.proofs.Bytes.{padded, bytes-agree, bytes-back, padded-agrees}
 use Rattle.marks.specs.Cassettes.{given}
-use Rattle.marks.proofs.Faulted.{not-given, both-true}
+use Rattle.marks.proofs.Faulted.{not-given, given-none, both-true}
+use Rattle.marks.proofs.MarkLaws.{zeros}
 use Rattle.lifts.specs.Lifting.{mostShafts, mostRows, slotCount, shown}
+use Rattle.depths.specs.Depths.{depthBy}
 use Rattle.store.specs.declared.Store.{Store}
-use Rattle.store.specs.Slots.{held, height, slot, cassettes}
+use Rattle.store.specs.Slots.{depth, height, slot, cassettes}
 use Rattle.store.specs.Accept.{allShown, shaftsFault, Accepted}
-use Rattle.store.specs.Sound.{Shaped}
+use Rattle.store.specs.Sound.{Shaped, Sound}
 use Rattle.store.proofs.Acceptance.{accepted-sound}
-use Rattle.depths.proofs.DepthLaws.{depth-some, depth-most, depth-least, rows-most}
 use Rattle.store.proofs.InPlace.{shaped-in-place}
 use Rattle.store.proofs.Once.{once-walks}
 use Rattle.store.proofs.Typed.{shown-at}
 use Rattle.store.proofs.Verdicts.{by-shafts}
 use Rattle.store.proofs.Walk.{shaft-none, not-too-high}
-use Rattle.image.specs.Image.{formWidth, frameWidth, headBits, shaftsBits, imageBits, imageLength, imageOf}
-use Rattle.image.specs.Reading.{Reading, emptyStore, next, padding, endFault, finish, readBody, readDepth, readSize, readForm, readImage}
-use Rattle.image.proofs.Cut.{cut, cut-to, cut-all, low-zero}
-use Rattle.image.proofs.Nexts.{accepted, unless-accepted, next-reads, took}
+use Rattle.image.specs.Image.{formWidth, frameWidth, lastForm, ownDepths, fieldIf, headBits, shaftsBits, imageBits, lengthIn, imageIn, EqualDepths, formOf, imageOf, formIn}
+use Rattle.image.specs.Reading.{Reading, emptyStore, noDepths, next, padding, endFault, finish, readBody, readDepth, readSize, readForm, readImage}
+use Rattle.image.proofs.Cut.{cut, cut-to, cut-all, low-zero, held-same}
+use Rattle.image.proofs.Nexts.{accepted, unless-accepted, next-reads, took, if-reads, took-if}
+use Rattle.image.proofs.Forms.{form-equal, form-unequal, form-known, form-holds}
 use Rattle.image.proofs.ReadBack.{shafts-back}
 use Rattle.image.proofs.WriteBack.{Low, Settled, Shafts, shafts-read}
 
 -- the cut of all shafts below m of a store that has nothing beyond is the store
 whole : (s : Store) → Shaped s → cut s (s .m) (16 * s .m) ≡ s
-unfolding shown
+unfolding shown depthBy
 whole s p =
-    ap₂ (held (s .m) (s .h))
-    (cut-to mostShafts (s .heights) (p .heights-sized) (s .m) mostShafts (p .shafts) (omega arith) (λ i a b. p .none-beyond i a)
+    held-same (s .m)
+    (cut-to mostShafts (s .depths) (p .depths-sized) (s .m) mostShafts (p .shafts) (omega arith) (λ i a b. p .none-beyond i a)
+    ∙ cut-all mostShafts (s .depths) (p .depths-sized))
+    (cut-to mostShafts (s .heights) (p .heights-sized) (s .m) mostShafts (p .shafts) (omega arith) (λ i a b. empty i a)
     ∙ cut-all mostShafts (s .heights) (p .heights-sized))
     (cut-to slotCount (s .slots) (p .slots-sized) (16 * s .m) slotCount (omega (arith, p .shafts)) (omega arith) none ∙ cut-all slotCount (s .slots) (p .slots-sized))
   where
+    empty : (i : ℕ) → s .m ≤ i → height s i ≡ 0
+    empty i a = omega (arith, p .heights i, p .none-beyond i a)
+
     none : (i : ℕ) → 16 * s .m ≤ i → i < slotCount → getD (s .slots) i 0 ≡ 0
     none i a b =
         let e : 16 * (i / 16) + i % 16 ≡ i = omega arith in
-        let z : height s (i / 16) ≡ 0 = p .none-beyond (i / 16) (omega arith) in
+        let z : height s (i / 16) ≡ 0 = empty (i / 16) (omega arith) in
         rw e at (p .none-above (i / 16) (i % 16) (omega arith) (omega arith) (omega arith))
 
 -- zero bits to the end of the byte are padding
@@ -62,24 +69,40 @@ finishes : (b : List ℕ) (s : Store) (l : List Bool) → padding l ≡ true →
 unfolding finish
 finishes b s l p = simp p
 
--- a store accepted, written and read is that store
-pub written-read : (s : Store) → Accepted s → readImage (imageOf s) ≡ accepted s
-unfolding readImage imageOf cassettes
-written-read s e =
-    let p = accepted-sound s e in
-    let k = byteCount (length (imageBits s)) * 8 - length (imageBits s) in
-    let pad = bits k 0 in
-    let shafts = shaftsBits s (s .m) in
-    let m : s .m - 1 + 1 ≡ s .m = omega (arith, p .some-shaft) in
-    let h : s .h - 1 + 1 ≡ s .h = omega (arith, depth-least (s .h) 0 (p .some-row 0 (p .some-shaft))) in
-    ap (λ (l : List Bool). next formWidth l readForm) (padded (imageBits s) k (omega arith) ∙ simp append-assoc)
-    ∙ next-reads formWidth 0 (bits frameWidth (s .m - 1) ++ (bits frameWidth (s .h - 1) ++ (shafts ++ pad))) readForm (zero-lt-suc 15)
-    ∙ next-reads frameWidth (s .m - 1) (bits frameWidth (s .h - 1) ++ (shafts ++ pad)) readDepth (omega (arith, p .shaped .shafts))
-    ∙ next-reads frameWidth (s .h - 1) (shafts ++ pad) (λ n r. readBody (emptyStore (s .m - 1 + 1) (n + 1)) r) (omega (arith, rows-most (s .h) 0 (p .shaped .rows 0)))
-    ∙ ap₂ (λ (n r : ℕ). readBody (emptyStore n r) (shafts ++ pad)) m h
-    ∙ shafts-back s (p .shaped) (s .m) pad finish (p .shaped .shafts) (once-walks s (s .m) (p .shaped .heights) (p .no-gap) (p .once))
-    ∙ finishes (cassettes s) (cut s (s .m) (16 * s .m)) pad (zeros-pad k (omega arith))
-    ∙ ap accepted (whole s (p .shaped))
+-- form 0 is the one in which the head has the depth
+not-own : (f : ℕ) → ownDepths f ≡ false → f ≡ 0
+not-own f z = omega (arith, ltb-false 0 f z)
+
+-- the image of a store accepted, in a form that can hold it, is read as that store
+module _ (f : ℕ) (s : Store) (e : Accepted s) (known : f ≤ lastForm) (equal : f ≡ 0 → EqualDepths s) where
+  p : Sound s
+  p = accepted-sound s e
+
+  -- what the head gives for the depth − 1 of all shafts
+  v : ℕ
+  v = cond (not (ownDepths f)) (depth s 0 - 1) 0
+
+  common : ownDepths f ≡ false → (x : ℕ) → x < s .m → depth s x ≡ v + 1
+  unfolding v
+  common z x h = rw z (equal (not-own f z) x h ∙ omega (arith, p .some-row 0 (p .some-shaft)))
+
+  pub image-read : readImage (imageIn f s) ≡ accepted s
+  unfolding readImage imageIn imageBits headBits readBody cassettes v
+  image-read =
+      let k = byteCount (length (imageBits f s)) * 8 - length (imageBits f s) in
+      let pad = bits k 0 in
+      let shafts = shaftsBits f s (s .m) in
+      let deep = fieldIf (not (ownDepths f)) frameWidth (depth s 0 - 1) in
+      let m : s .m - 1 + 1 ≡ s .m = omega (arith, p .some-shaft) in
+      ap (λ (l : List Bool). next formWidth l readForm) (padded (imageBits f s) k (omega arith) ∙ simp append-assoc)
+      ∙ next-reads formWidth f (bits frameWidth (s .m - 1) ++ (deep ++ (shafts ++ pad))) readForm (omega arith)
+      ∙ rw (le-ltb lastForm f known) refl
+      ∙ next-reads frameWidth (s .m - 1) (deep ++ (shafts ++ pad)) (readDepth f) (omega (arith, p .shaped .shafts))
+      ∙ if-reads (not (ownDepths f)) frameWidth 0 (depth s 0 - 1) (shafts ++ pad) (λ u r. readBody f u (emptyStore (s .m - 1 + 1) noDepths) r) (omega (arith, p .shaped .rows 0))
+      ∙ ap (λ (n : ℕ). readBody f v (emptyStore n noDepths) (shafts ++ pad)) m
+      ∙ shafts-back s (p .shaped) f v (p .some-row) common (s .m) pad finish (omega arith) (once-walks s (s .m) (p .shaped .heights) (p .no-gap) (p .once))
+      ∙ finishes (cassettes s) (cut s (s .m) (16 * s .m)) pad (zeros-pad k (omega arith))
+      ∙ ap accepted (whole s (p .shaped))
 
 -- what the end of a reading gives back
 finish-settles : (s : Store) (m : ℕ) (b : List ℕ) (t : Store) (l : List Bool) → Low m t → finish b t l ≡ accepted s → Settled s m t
@@ -87,7 +110,8 @@ unfolding finish
 finish-settles s m b t l low e =
     let q : t ≡ s = ap (λ (r : Reading). r .store) (unless-accepted (endFault l) (accepted t) s e .1) in
     rw (← q) (record {
-      same = sym (ap₂ (held (t .m) (t .h)) (low .heights) (low .slots));
+      same = sym (held-same (t .m) (low .depths) (low .heights) (low .slots));
+      depths-sized = low .depths-sized;
       heights-sized = low .heights-sized;
       slots-sized = low .slots-sized;
     })
@@ -100,99 +124,146 @@ pads l e =
     let n = length l in
     (ltb-true n 8 (p .0), cc (take-all n l (omega arith), bits-field n l (omega arith), eqb-true (field l n) 0 (p .1)))
 
--- what was read after the size: the store s of m shafts and depth h, which has no fault
-record Body (s : Store) (m h : ℕ) (l : List Bool) : Type 0 where
+-- what was read after the head of form f, whose depth − 1 is v: the store s of m shafts, which has no fault
+record Body (f v : ℕ) (s : Store) (m : ℕ) (l : List Bool) : Type 0 where
   shafts : s .m ≡ m
-  rows : s .h ≡ h
-  read : Shafts s (emptyStore m h) m l finish
+  read : Shafts f v s (emptyStore m noDepths) m l finish
   pad : padding (read .left) ≡ true
   sound : Accepted s
 
 module _ (s : Store) (m : ℕ) (few : m ≤ mostShafts) (same : s .m ≡ m) (low : Low m s)
     (above : (y k : ℕ) → y < m → height s y ≤ k → k < mostRows → slot s y (suc k) ≡ 0) (clean : shaftsFault s m ≡ 0) where
-  beyond : (x : ℕ) → m ≤ x → height s x ≡ 0
-  beyond x h = low-zero mostShafts (s .heights) m x (low .heights-sized) few (low .heights) h
-
   low-shaped : Shaped s
-  unfolding shown
+  unfolding shown depthBy
   low-shaped = record {
+    depths-sized = low .depths-sized;
     heights-sized = low .heights-sized;
     slots-sized = low .slots-sized;
     numbered = low .numbered;
     shafts = omega arith;
     rows = low .rows;
-    heights = λ x. elim (decLt x m) [ yes h ↦ not-too-high s x (shaft-none s x m clean h) .0 | no h ↦ omega (arith, beyond x (omega arith)) ];
-    none-beyond = λ x h. beyond x (omega arith);
+    heights = λ x. elim (decLt x m) [
+      | yes h ↦ not-too-high s x (shaft-none s x m clean h) .0
+      | no h ↦ omega (arith, low-zero mostShafts (s .heights) m x (low .heights-sized) few (low .heights) (omega arith))
+    ];
+    none-beyond = λ x h. low-zero mostShafts (s .depths) m x (low .depths-sized) few (low .depths) (omega arith);
     none-above = λ x k a b h. elim (decLt x m) [
       | yes g ↦ above x k g h b
       | no g ↦ low-zero slotCount (s .slots) (16 * m) (16 * x + k) (low .slots-sized) (omega arith) (low .slots) (omega arith)
     ];
   }
 
-body-read : (s : Store) (m h : ℕ) (l : List Bool) → 0 < m → m ≤ mostShafts → 0 < h → h ≤ mostRows → readBody (emptyStore m h) l ≡ accepted s
-    → Body s m h l
-unfolding readBody allShown
-body-read s m h l a few b rows e =
-    let low : Low 0 (emptyStore m h) = record {
+body-read : (f v : ℕ) → v < mostRows → (s : Store) (m : ℕ) (l : List Bool) → 0 < m → m ≤ mostShafts → readBody f v (emptyStore m noDepths) l ≡ accepted s
+    → Body f v s m l
+unfolding readBody allShown depthBy
+body-read f v rows s m l a few e =
+    let low : Low 0 (emptyStore m noDepths) = record {
+      depths-sized = refl;
       heights-sized = refl;
       slots-sized = refl;
       numbered = shown-at (replicate slotCount 0) refl;
+      depths = refl;
       heights = refl;
       slots = refl;
-      rows = λ x. depth-most h x rows;
+      rows = λ x. omega (arith, zeros mostShafts x);
     } in
-    let p = shafts-read s (emptyStore m h) m l finish few low (λ b t r. finish-settles s m b t r) e in
-    let f = unless-accepted (endFault (p .left)) (accepted (cut s m (16 * m))) s (p .after) in
-    let all = subst (Low m) (ap (λ (r : Reading). r .store) (f .1)) (p .low) in
+    let p = shafts-read f v rows s (emptyStore m noDepths) m l finish few low (λ b t r. finish-settles s m b t r) e in
+    let g = unless-accepted (endFault (p .left)) (accepted (cut s m (16 * m))) s (p .after) in
+    let all = subst (Low m) (ap (λ (r : Reading). r .store) (g .1)) (p .low) in
     let is : s .m ≡ m = ap (λ (u : Store). u .m) (sym (p .start)) in
-    let deep : s .h ≡ h = ap (λ (u : Store). u .h) (sym (p .start)) in
     record {
       shafts = is;
-      rows = deep;
       read = p;
-      pad = not-given (padding (p .left)) 6 (f .0);
-      sound = by-shafts s (shaped-in-place s (low-shaped s m few is all (p .above) (p .clean)) (omega arith) (λ x i. depth-some (s .h) x (omega arith)))
+      pad = not-given (padding (p .left)) 6 (g .0);
+      sound = by-shafts s (shaped-in-place s (low-shaped s m few is all (p .above) (p .clean)) (omega arith) (λ x i. p .deep x (omega arith)))
           ∙ ap (shaftsFault s) is ∙ p .clean;
     }
 
 -- the fields before the shafts
-head-begins : (s : Store) (m h : ℕ) (l k r q left : List Bool) → s .m ≡ m + 1 → s .h ≡ h + 1 → l ≡ bits formWidth 0 ++ k → k ≡ bits frameWidth m ++ r → r ≡ bits frameWidth h ++ q
-    → q ≡ shaftsBits s (m + 1) ++ left → l ≡ imageBits s ++ left
+head-begins : (f : ℕ) (s : Store) (m v : ℕ) (l k r q left : List Bool) → s .m ≡ m + 1 → (ownDepths f ≡ false → depth s 0 ≡ v + 1) → l ≡ bits formWidth f ++ k
+    → k ≡ bits frameWidth m ++ r → r ≡ fieldIf (not (ownDepths f)) frameWidth v ++ q → q ≡ shaftsBits f s (m + 1) ++ left → l ≡ imageBits f s ++ left
 unfolding imageBits headBits
-head-begins s m h l k r q left em eh el ek er eq =
+head-begins f s m v l k r q left em common el ek er eq =
     let fm : m ≡ s .m - 1 = omega arith in
-    let fh : h ≡ s .h - 1 = omega arith in
-    rw (el, ek, er, eq, ← em, fm, fh) (simp append-assoc)
+    rw (el, ek, er, eq, ← em, fm, deep (ownDepths f) common) (simp append-assoc)
+  where
+    deep : (own : Bool) → (own ≡ false → depth s 0 ≡ v + 1) → fieldIf (not own) frameWidth v ≡ fieldIf (not own) frameWidth (depth s 0 - 1)
+    deep true h = refl
+    deep false h = let e : v ≡ depth s 0 - 1 = omega (arith, h refl) in ap (bits frameWidth) e
 
 -- bytes that begin with an image, and end in padding, are that image
-image-bytes : (s : Store) (bytes : List ℕ) (left : List Bool) → ((i : ℕ) → getD bytes i 0 < 256) → bitsOf bytes ≡ imageBits s ++ left → padding left ≡ true → imageOf s ≡ bytes
-unfolding imageOf imageLength bitsOf
-image-bytes s bytes left small e p =
+image-bytes : (f : ℕ) (s : Store) (bytes : List ℕ) (left : List Bool) → ((i : ℕ) → getD bytes i 0 < 256) → bitsOf bytes ≡ imageBits f s ++ left → padding left ≡ true → imageIn f s ≡ bytes
+unfolding imageIn lengthIn bitsOf
+image-bytes f s bytes left small e p =
     let q = pads left p in
     let n = length bytes in
-    let g : byteCount (length (imageBits s)) ≡ n = omega (arith, length-append (imageBits s) left, ap length e, length-packed 8 bytes) in
-    let f = bytes-agree n (imageBits s) (imageBits s ++ bits (length left) 0) (λ i. sym (padded-agrees (imageBits s) (length left) i)) in
-    cc (g, f, q .1, e, bytes-back bytes small)
+    let g : byteCount (length (imageBits f s)) ≡ n = omega (arith, length-append (imageBits f s) left, ap length e, length-packed 8 bytes) in
+    let b = bytes-agree n (imageBits f s) (imageBits f s ++ bits (length left) 0) (λ i. sym (padded-agrees (imageBits f s) (length left) i)) in
+    cc (g, b, q .1, e, bytes-back bytes small)
 
--- an accepted image gives a store that is accepted, and that store is written as the same bytes
-pub read-written : (bytes : List ℕ) (s : Store) → ((i : ℕ) → getD bytes i 0 < 256) → readImage bytes ≡ accepted s → Accepted s × (imageOf s ≡ bytes)
-unfolding readImage
-read-written bytes s small e =
+-- Bytes are an image of the store s, in the form that they name.
+pub record ImageOf (bytes : List ℕ) (s : Store) : Type 0 where
+  pub sound : Accepted s
+  pub known : formIn bytes ≤ lastForm
+  pub equal : formIn bytes ≡ 0 → EqualDepths s
+  pub is : imageIn (formIn bytes) s ≡ bytes
+
+-- an accepted image is one of the store that it is read as
+pub read-image : (bytes : List ℕ) (s : Store) → ((i : ℕ) → getD bytes i 0 < 256) → readImage bytes ≡ accepted s → ImageOf bytes s
+unfolding readImage formIn
+read-image bytes s small e =
     let l = drop formWidth (bitsOf bytes) in
     let f = took formWidth (bitsOf bytes) readForm s e in
-    let u = unless-accepted (given (not (eqb (f .v) 0)) 1) (readSize l) s (f .after) in
-    let z : f .v ≡ 0 = eqb-true (f .v) 0 (not-given (eqb (f .v) 0) 0 (u .0)) in
-    let g = took frameWidth l readDepth s (u .1) in
-    let h = took frameWidth (drop frameWidth l) (λ h r. readBody (emptyStore (g .v + 1) (h + 1)) r) s (g .after) in
+    let u = unless-accepted (given (ltb lastForm (f .v)) 1) (readSize (f .v) l) s (f .after) in
+    let g = took frameWidth l (readDepth (f .v)) s (u .1) in
+    let h = took-if (not (ownDepths (f .v))) frameWidth 0 (drop frameWidth l) (λ v r. readBody (f .v) v (emptyStore (g .v + 1) noDepths) r) s (pow-pos frameWidth) (g .after) in
     let m : g .v < 16 = rw (g .is .value) (field-lt _ frameWidth) in
-    let d : h .v < 16 = rw (h .is .value) (field-lt _ frameWidth) in
-    let b = body-read s (g .v + 1) (h .v + 1) _ (omega arith) (omega arith) (omega arith) (omega arith) (h .after) in (
-      b .sound,
-      image-bytes s bytes (b .read .left) small
-          (head-begins s (g .v) (h .v) _ _ _ _ (b .read .left) (b .shafts) (b .rows) (rw z at (f .is .begins)) (g .is .begins) (h .is .begins) (b .read .begins))
-          (b .pad),
-    )
+    let b = body-read (f .v) (h .u) (h .small) s (g .v + 1) (h .left) (omega arith) (omega arith) (h .after) in
+    named (f .v) (f .is .value) (b .sound) (ltb-false lastForm (f .v) (given-none _ 0 (u .0)))
+    (λ z x i.
+    let own : ownDepths (f .v) ≡ false = rw z in
+    b .read .common own x (omega (arith, b .shafts)) ∙ sym (b .read .common own 0 (omega arith)))
+    (image-bytes (f .v) s bytes (b .read .left) small
+    (head-begins (f .v) s (g .v) (h .u) _ _ _ _ (b .read .left) (b .shafts) (λ z. b .read .common z 0 (omega arith)) (f .is .begins) (g .is .begins) (h .begins) (b .read .begins))
+    (b .pad))
+  where
+    named : (f : ℕ) → f ≡ formIn bytes → Accepted s → f ≤ lastForm → (f ≡ 0 → EqualDepths s) → imageIn f s ≡ bytes → ImageOf bytes s
+    named f e a k q is = record { sound = a; known = omega arith; equal = λ z. q (e ∙ z); is = ap (λ (k : ℕ). imageIn k s) (sym e) ∙ is }
 
--- no two images stand for one store
-pub one-image : (a b : List ℕ) (s : Store) → ((i : ℕ) → getD a i 0 < 256) → ((i : ℕ) → getD b i 0 < 256) → readImage a ≡ accepted s → readImage b ≡ accepted s → a ≡ b
-one-image a b s p q e f = sym (read-written a s p e .1) ∙ read-written b s q f .1
+-- the form that an image names is its form
+pub image-form : (f : ℕ) (s : Store) → f ≤ lastForm → formIn (imageIn f s) ≡ f
+unfolding formIn imageIn imageBits headBits
+image-form f s h =
+    let k = byteCount (length (imageBits f s)) * 8 - length (imageBits f s) in
+    let rest = bits frameWidth (s .m - 1) ++ (fieldIf (not (ownDepths f)) frameWidth (depth s 0 - 1) ++ (shaftsBits f s (s .m) ++ bits k 0)) in
+    let e : imageBits f s ++ bits k 0 ≡ bits formWidth f ++ rest = simp append-assoc in
+    ap (λ (l : List Bool). field l formWidth) (padded (imageBits f s) k (omega arith) ∙ e) ∙ field-bits formWidth f rest (omega arith)
+
+-- a store accepted, written and read is that store
+pub written-read : (s : Store) → Accepted s → readImage (imageOf s) ≡ accepted s
+unfolding imageOf
+written-read s e = image-read (formOf s) s e (form-known s) (form-holds s)
+
+-- "a form 1 image with equal depths"
+abbrev pub Rewritten : List ℕ → Store → Type 0
+Rewritten bytes s = (formIn bytes ≡ 1) × EqualDepths s
+
+module _ (bytes : List ℕ) (s : Store) (i : ImageOf bytes s) where
+  -- "every other accepted image still gives its own bytes"
+  pub own-bytes : (Rewritten bytes s → ⊥) → imageOf s ≡ bytes
+  unfolding imageOf
+  own-bytes n = ap (λ (f : ℕ). imageIn f s) (elim (ℕ-discrete (formIn bytes) 0) [
+    | yes z ↦ form-equal s (i .equal z) ∙ sym z
+    | no z ↦ (let one : formIn bytes ≡ 1 = omega (arith, i .known) in form-unequal s (λ p. n (one, p)) ∙ sym one)
+  ]) ∙ i .is
+
+  -- such an image "becomes the form 0 image of that store", which is another
+  pub other-bytes : Rewritten bytes s → (imageOf s ≡ imageIn 0 s) × (imageOf s ≡ bytes → ⊥)
+  unfolding imageOf
+  other-bytes r =
+      let z = ap (λ (f : ℕ). imageIn f s) (form-equal s (r .1)) in
+      (z, λ e. absurd (omega (arith, r .0, ap formIn (sym e ∙ z), image-form 0 s (omega arith))))
+
+-- no two images in one form stand for one store
+pub one-image : (a b : List ℕ) (s : Store) → ImageOf a s → ImageOf b s → formIn a ≡ formIn b → a ≡ b
+one-image a b s p q e = sym (p .is) ∙ ap (λ (f : ℕ). imageIn f s) e ∙ q .is

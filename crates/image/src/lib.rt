@@ -1,5 +1,5 @@
-// Images of stores (document 01, "The image"): the answers of reading and of writing one. The definitions that the contracts of `reading`
-// and `writing` cite are in specs/; proofs/RoundTrip.antt shows that the two undo each other.
+// Images of stores (document 01, "The image"; document 02, 7/13): the answers of reading and of writing one. The definitions that the contracts of `reading`
+// and `writing` cite are in specs/; proofs/RoundTrip.antt shows how the two undo each other.
 
 use store::Fault;
 use store::Store;
@@ -15,7 +15,7 @@ pub enum ReadAnswer {
     Padding,
 }
 
-// The store that an image stands for, or the empty store of m 1, h 1 where it is refused.
+// The store that an image stands for, or the empty store of one shaft of depth 1 where it is refused.
 pub struct Read {
     pub store: Store,
     pub answer: ReadAnswer,

@@ -1,4 +1,5 @@
 // Reads and writes images beyond the proved cases, and prints what each comes to. Held to the file stdout.
+use depths::equal;
 use libc::STDOUT_FILENO;
 use marks::blank;
 use numbers::read_number;
@@ -24,29 +25,33 @@ fn say_bytes(bytes: &[u8], n: usize) {
     io::write_all(STDOUT_FILENO, b"\n");
 }
 
+// m shafts of depth h with no cassette.
 fn empty(m: u8, h: u8) -> Store {
+    let depths = equal(m, h);
     Store {
         m,
-        h,
+        depths,
         heights: [0u8; 16],
         slots: [0u8; 256],
     }
 }
 
-// The frame of a store, its first heights, and its slots as far as row 1 of shaft 2.
+// The frame of a store as far as shaft 3, its first heights, and its slots as far as row 1 of shaft 2.
 fn say_store(s: Store) {
     say(b"  m ", s.m as u64);
-    say(b"  h ", s.h as u64);
+    let depths = s.depths;
     let heights = s.heights;
     let slots = s.slots;
-    io::write_all(STDOUT_FILENO, b"\n  heights");
+    io::write_all(STDOUT_FILENO, b"  depths");
+    say_bytes(&depths, 4);
+    io::write_all(STDOUT_FILENO, b"  heights");
     say_bytes(&heights, 3);
     io::write_all(STDOUT_FILENO, b"  slots");
     say_bytes(&slots, 33);
 }
 
-// Reads an image, and prints its number, the store handed back, and the bytes that this store is written as: those of the image where it is accepted,
-// else those of the empty store of m 1, h 1.
+// Reads an image, and prints its number, the store handed back, and the bytes that this store is written as: where the image is accepted its own, or in form 0
+// where it is one in form 1 with equal depths; else those of the empty store of one shaft of depth 1.
 fn shown(what: &[u8], image: &[u8]) {
     let got = read(image);
     let answer = got.answer;
@@ -120,9 +125,32 @@ fn images_read() {
 
 fn images_cut() {
     shown(b"no bytes: ", b"");
-    shown(b"form 1: ", b"\x10\x00\x00");
+    shown(b"form 2: ", b"\x20\x00\x00");
     shown(b"01 11: ", b"\x01\x11");
     shown(b"without its last byte: ", b"\x02\x11\x00\x81\x00\x20");
+}
+
+// [1 2 3] [4] [5] of depths 3, 2 and 2; the example in form 1; one shaft of depth 2, [1 2], in form 1.
+fn images_of_form_1() {
+    shown(
+        b"depths 3 2 2: ",
+        b"\x12\x21\x80\x81\x01\x88\x41\x04\x20\xA0",
+    );
+    shown(
+        b"form 1, equal depths: ",
+        b"\x12\x11\x00\x81\x08\x04\x20\x60",
+    );
+    shown(b"form 1, one shaft: ", b"\x10\x11\x00\x81\x00");
+}
+
+// Form 1 without a height, with a height above its shaft's own depth, and with a padding bit.
+fn faults_of_form_1() {
+    shown(b"form 1, no height: ", b"\x10\x10");
+    shown(b"height 2 of 1: ", b"\x11\x20\x00\x80\x40\x80");
+    shown(
+        b"form 1, a padding bit: ",
+        b"\x12\x21\x80\x81\x01\x88\x41\x04\x20\xA1",
+    );
 }
 
 fn images_faulty() {
@@ -140,11 +168,21 @@ fn images_padded() {
     );
 }
 
+// The same with a last shaft of depth and height 15: 255 cassettes.
+fn uneven() -> Store {
+    let mut s = last_is(0);
+    s.depths[15] = 15;
+    s.heights[15] = 15;
+    s
+}
+
 fn stores_written() {
     let mut out = [255u8; 300];
     written(b"m 1, h 1, empty: ", empty(1, 1), &mut out);
     written(b"m 16, h 16, 256 cassettes: ", fullest(), &mut out);
     read_back(&out, 268);
+    written(b"depths 16 and one 15: ", uneven(), &mut out);
+    read_back(&out, 274);
 }
 
 fn stores_refused() {
@@ -159,6 +197,8 @@ fn main() {
     images_read();
     images_cut();
     images_faulty();
+    images_of_form_1();
+    faults_of_form_1();
     images_padded();
     stores_written();
     stores_refused();

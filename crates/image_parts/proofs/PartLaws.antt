@@ -1,20 +1,21 @@
--- The parts of an image, as the code writes them: rows and shafts one after the other, and how many bits the shafts take.
+-- The parts of an image, as the code writes them: rows, the head, and shafts one after the other.
+use mathlib.Core.Bool.{Bool, not}
 use mathlib.Core.List.{List, append-nil}
-use mathlib.Core.Path.{_≡_, refl, ap}
-use Prim.Native.Nat.{ℕ, _+_, _*_, _<_}
+use mathlib.Core.Path.{_≡_}
+use Prim.Native.Nat.{ℕ, _+_, _-_, _*_, _<_}
 use native.Mathlib.Numerals.{add-one}
-use native.Mathlib.Omega.{arith}
-use lib.ListN.{length, getD}
+use lib.ListN.{getD}
 use Rattle.pens.specs.declared.Pen.{Pen}
 use Rattle.bits.specs.Fields.{bits, packed}
 use Rattle.pens.specs.Pens.{Pushes}
 use Rattle.pens.proofs.Pushed.{pushes-none, pushes-then}
 use Rattle.bits.proofs.Widths.{packed-append}
 use Rattle.lifts.specs.Lifting.{heightIn, shown}
+use Rattle.depths.specs.Depths.{depthBy}
+use Rattle.store.specs.declared.Store.{Store}
+use Rattle.store.specs.Slots.{depth}
 use Rattle.rows.specs.Rows.{rowsUp}
-use Rattle.image.specs.Image.{heightWidth, cassetteWidth, columnBits, columnsBits}
-use Rattle.image.proofs.Lengths.{length-more}
-use Rattle.image_parts.specs.Promises.{CountIs}
+use Rattle.image.specs.Image.{formWidth, frameWidth, heightWidth, cassetteWidth, ownDepths, fieldIf, headBits, columnBits, columnsBits}
 
 -- the rows of a shaft, each a field of w bits
 module _ (w : ℕ) (slots : List ℕ) (x : ℕ) where
@@ -28,32 +29,27 @@ module _ (w : ℕ) (slots : List ℕ) (x : ℕ) where
   unfolding rowsUp shown packed
   row-more k v i f g = rw (add-one, packed-append, append-nil, ← i) (pushes-then f g)
 
+-- the head: form, m − 1, and the depth − 1 where it is there
+pub head-written : (f : ℕ) (s : Store) (own : Bool) {a b c d : List ℕ} {p q r u : Pen} → own ≡ ownDepths f → Pushes (bits formWidth f) a b p q
+    → Pushes (bits frameWidth (s .m - 1)) b c q r → Pushes (fieldIf (not own) frameWidth (depth s 0 - 1)) c d r u → Pushes (headBits f s) a d p u
+unfolding headBits
+head-written f s own o e g h = rw (← o) (pushes-then (pushes-then e g) h)
+
 -- the shafts
-module _ (heights slots : List ℕ) where
-  pub no-shafts : (out : List ℕ) (p : Pen) → p .full < 8 → Pushes (columnsBits heights slots 0) out out p p
+module _ (f : ℕ) (depths heights slots : List ℕ) where
+  pub no-shafts : (out : List ℕ) (p : Pen) → p .full < 8 → Pushes (columnsBits f depths heights slots 0) out out p p
   unfolding columnsBits
   no-shafts out p h = pushes-none out p h
 
-  -- one shaft: its height, and then its rows
-  pub shaft-written : (x v : ℕ) {a b c : List ℕ} {p q r : Pen} → v ≡ heightIn heights x → Pushes (bits heightWidth v) a b p q
-      → Pushes (packed cassetteWidth (rowsUp slots x v)) b c q r → Pushes (columnBits heights slots x) a c p r
+  -- one shaft: its depth, its height, and then its rows
+  pub shaft-written : (x v : ℕ) (own : Bool) {a b c d : List ℕ} {p q r u : Pen} → own ≡ ownDepths f → v ≡ heightIn heights x
+      → Pushes (fieldIf own frameWidth (depthBy depths x - 1)) a b p q → Pushes (bits heightWidth v) b c q r
+      → Pushes (packed cassetteWidth (rowsUp slots x v)) c d r u → Pushes (columnBits f depths heights slots x) a d p u
   unfolding columnBits
-  shaft-written x v i f g = rw (← i) (pushes-then f g)
+  shaft-written x v own o i e g h = rw (← o, ← i) (pushes-then (pushes-then e g) h)
 
   -- one shaft more
-  pub shaft-more : (x : ℕ) {a b c : List ℕ} {p q r : Pen} → Pushes (columnsBits heights slots x) a b p q → Pushes (columnBits heights slots x) b c q r
-      → Pushes (columnsBits heights slots (x + 1)) a c p r
+  pub shaft-more : (x : ℕ) {a b c : List ℕ} {p q r : Pen} → Pushes (columnsBits f depths heights slots x) a b p q → Pushes (columnBits f depths heights slots x) b c q r
+      → Pushes (columnsBits f depths heights slots (x + 1)) a c p r
   unfolding columnsBits
-  shaft-more x f g = rw add-one (pushes-then f g)
-
--- how many bits the shafts take
-module _ (heights : List ℕ) where
-  pub none-taken : CountIs heights 0 0
-  unfolding columnsBits
-  none-taken = record { bits = λ slots. refl; few = omega arith }
-
-  pub one-more : (x n v : ℕ) → CountIs heights x n → v ≡ heightIn heights x → v < 256 → CountIs heights (x + 1) (n + 5 + 8 * v)
-  one-more x n v p e h = record {
-    bits = λ slots. omega (arith, p .bits slots, length-more heights slots x, ap (λ (k : ℕ). length (columnsBits heights slots k)) (add-one x));
-    few = omega (arith, p .few);
-  }
+  shaft-more x g h = rw add-one (pushes-then g h)

@@ -1,17 +1,15 @@
--- What the parts of writing ask for and promise.
+-- What the parts of writing ask for.
 use mathlib.Core.List.{List}
-use mathlib.Core.Path.{_≡_}
-use Prim.Native.Nat.{ℕ, _*_, _≤_}
-use lib.ListN.{length}
+use Prim.Native.Nat.{ℕ, _≤_, _<_}
 use Rattle.lifts.specs.Lifting.{mostShafts, mostRows, heightIn}
-use Rattle.image.specs.Image.{columnsBits}
+use Rattle.depths.specs.Depths.{depthBy}
 
--- The first shafts take n bits, whatever stands in them.
-pub record CountIs (heights : List ℕ) (shafts n : ℕ) : Type 0 where
-  pub bits : (slots : List ℕ) → n ≡ length (columnsBits heights slots shafts)
-  pub few : n ≤ 2045 * shafts
+-- the arrays have shaft x and its rows, and its depth and its height fit their fields
+pub record CanWrite (depths heights : List ℕ) (x : ℕ) : Type 0 where
+  pub below : x < mostShafts
+  pub some : 0 < depthBy depths x
+  pub most : depthBy depths x ≤ mostRows
+  pub rows : heightIn heights x ≤ mostRows
 
--- the arrays have the first shafts, and the rows of each
-pub record CanWrite (heights : List ℕ) (shafts : ℕ) : Type 0 where
-  pub most : shafts ≤ mostShafts
-  pub rows : (x : ℕ) → heightIn heights x ≤ mostRows
+abbrev pub CanWriteBelow : List ℕ → List ℕ → ℕ → Type 0
+CanWriteBelow depths heights shafts = (x : ℕ) → x < shafts → CanWrite depths heights x

@@ -6,20 +6,21 @@ use mathlib.Core.Path.{_≡_, refl, sym}
 use Prim.Native.Nat.{ℕ, suc, _≤_, _<_}
 use native.Mathlib.Decide.{decLt}
 use native.Mathlib.Omega.{arith}
-use lib.Dec.{leb}
+use lib.Dec.{leb, eqb}
 use Rattle.marks.proofs.Faulted.{both-true}
 use Rattle.lifts.specs.Lifting.{mostRows, heightIn, shown}
-use Rattle.in_place.specs.InPlace.{inRange, frameInRange, allBelow, fillable, slotInPlace, shaftInPlace}
+use Rattle.depths.specs.Depths.{depthBy}
+use Rattle.in_place.specs.InPlace.{inRange, depthInPlace, allBelow, fillable, slotInPlace, rowsInPlace}
 use Rattle.in_place.proofs.AllBelow.{all-true, all-of, all-fails}
 
-none-zero : (k : ℕ) → k ≡ 0 → inRange k ≡ false
+pub none-zero : (k : ℕ) → k ≡ 0 → inRange k ≡ false
 none-zero k e = simp (le-ltb 0 k (omega arith))
-
-none-above : (k : ℕ) → 16 < k → inRange k ≡ false
-none-above k h = simp (lt-ltb 0 k (omega arith), lt-leb k 16 h)
 
 pub range-true : (k : ℕ) → 0 < k → k ≤ 16 → inRange k ≡ true
 range-true k h i = simp (lt-ltb 0 k h, le-leb k 16 i)
+
+pub range-some : (k : ℕ) → 0 < k → leb k 16 ≡ inRange k
+range-some k h = sym (simp (lt-ltb 0 k h))
 
 pub range : (k : ℕ) → inRange k ≡ true → (0 < k) × (k ≤ 16)
 range k e = let p = both-true _ _ e in (ltb-true 0 k (p .0), leb-true k 16 (p .1))
@@ -28,22 +29,15 @@ and-false : (t : Bool) → (t && false) ≡ false
 and-false true = refl
 and-false false = refl
 
--- "m or h outside 1 to 16"
-module _ (m h : ℕ) where
-  pub shafts-none : m ≡ 0 → false ≡ frameInRange m h
-  shafts-none e = sym (simp (none-zero m e))
+-- the depth of one shaft in place: from 1 to 16, or none where the shaft is not below m
+module _ (m : ℕ) (depths : List ℕ) (x : ℕ) where
+  pub depth-below : x < m → depthInPlace m depths x ≡ inRange (depthBy depths x)
+  depth-below h = simp (lt-ltb x m h)
 
-  pub shafts-above : 16 < m → false ≡ frameInRange m h
-  shafts-above i = sym (simp (none-above m i))
+  pub depth-beyond : m ≤ x → depthInPlace m depths x ≡ eqb (depthBy depths x) 0
+  depth-beyond h = simp (le-ltb x m h)
 
-  module _ (i : 0 < m) (j : m ≤ 16) where
-    pub rows-none : h ≡ 0 → false ≡ frameInRange m h
-    rows-none e = sym (simp (none-zero h e, and-false))
-
-    pub by-rows : 0 < h → leb h 16 ≡ frameInRange m h
-    by-rows k = sym (simp (range-true m i j, lt-ltb 0 h k))
-
--- one shaft in place: its height is none where it is not below m, and every slot from its height up is empty
+-- the rows of one shaft in place: its height is none where it is not below m, and every slot from its height up is empty
 module _ (m : ℕ) (heights slots : List ℕ) (x : ℕ) where
   fillable-below : x < m → fillable m heights x ≡ heightIn heights x
   fillable-below h = simp (lt-ltb x m h)
@@ -59,9 +53,9 @@ module _ (m : ℕ) (heights slots : List ℕ) (x : ℕ) where
       ]
 
   -- what it says
-  module _ (e : shaftInPlace m heights slots x ≡ true) where
+  module _ (e : rowsInPlace m heights slots x ≡ true) where
     halves : (leb (heightIn heights x) (fillable m heights x) ≡ true) × (allBelow mostRows (slotInPlace m heights slots x) ≡ true)
-    unfolding shaftInPlace
+    unfolding rowsInPlace
     halves = both-true (leb (heightIn heights x) (fillable m heights x)) (allBelow mostRows (slotInPlace m heights slots x)) e
 
     pub height-beyond : m ≤ x → heightIn heights x ≡ 0
@@ -90,23 +84,23 @@ module _ (m : ℕ) (heights slots : List ℕ) (x : ℕ) where
               rw (le-ltb k (fillable m heights x) u, eq-eqb (shown slots x (suc k)) 0 (a k h (omega (arith, height-fillable)))))
         ]
 
-    pub shaft-in-place : shaftInPlace m heights slots x ≡ true
-    unfolding shaftInPlace
-    shaft-in-place = rw (le-leb (heightIn heights x) (fillable m heights x) height-fillable) (all-of mostRows (slotInPlace m heights slots x) slot-in-place)
+    pub rows-in-place : rowsInPlace m heights slots x ≡ true
+    unfolding rowsInPlace
+    rows-in-place = rw (le-leb (heightIn heights x) (fillable m heights x) height-fillable) (all-of mostRows (slotInPlace m heights slots x) slot-in-place)
 
 -- one shaft tested: its height, then its slots from there up
 module _ (m : ℕ) (heights slots : List ℕ) (x : ℕ) where
-  pub shaft-past : fillable m heights x < heightIn heights x → false ≡ shaftInPlace m heights slots x
-  unfolding shaftInPlace
-  shaft-past h = sym (simp (lt-leb (heightIn heights x) (fillable m heights x) h))
+  pub rows-past : fillable m heights x < heightIn heights x → false ≡ rowsInPlace m heights slots x
+  unfolding rowsInPlace
+  rows-past h = sym (simp (lt-leb (heightIn heights x) (fillable m heights x) h))
 
-  pub slot-filled : (k : ℕ) → k < mostRows → fillable m heights x ≤ k → (shown slots x (suc k) ≡ 0 → ⊥) → false ≡ shaftInPlace m heights slots x
-  unfolding shaftInPlace
+  pub slot-filled : (k : ℕ) → k < mostRows → fillable m heights x ≤ k → (shown slots x (suc k) ≡ 0 → ⊥) → false ≡ rowsInPlace m heights slots x
+  unfolding rowsInPlace
   slot-filled k h i n =
       let f : slotInPlace m heights slots x k ≡ false = simp (le-ltb k (fillable m heights x) i, ne-eqb (shown slots x (suc k)) 0 n) in
       sym (simp (all-fails mostRows (slotInPlace m heights slots x) k h f, and-false))
 
-  pub shaft-fits : heightIn heights x ≤ fillable m heights x → ((k : ℕ) → fillable m heights x ≤ k → k < mostRows → shown slots x (suc k) ≡ 0)
-      → true ≡ shaftInPlace m heights slots x
-  shaft-fits h a =
-      sym (shaft-in-place m heights slots x (λ i. omega (arith, fillable-beyond m heights slots x i)) (λ k i j. a k (omega (arith, fillable-within m heights slots x)) i))
+  pub rows-fit : heightIn heights x ≤ fillable m heights x → ((k : ℕ) → fillable m heights x ≤ k → k < mostRows → shown slots x (suc k) ≡ 0)
+      → true ≡ rowsInPlace m heights slots x
+  rows-fit h a =
+      sym (rows-in-place m heights slots x (λ i. omega (arith, fillable-beyond m heights slots x i)) (λ k i j. a k (omega (arith, fillable-within m heights slots x)) i))

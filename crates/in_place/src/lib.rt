@@ -1,4 +1,7 @@
-// Whether number 12 applies (document 01) to the frame and the arrays of a store: m and h in range, and nothing recorded where no cassette may stand.
+// Whether number 12 applies (document 01; document 02, 7/13) to the frame and the arrays of a store: m and the depths in range, and nothing recorded where
+// no cassette may stand.
+use depths::Depths;
+use depths::depth_of;
 use lifts::Heights;
 use lifts::Slots;
 use lifts::height_at;
@@ -6,7 +9,7 @@ use lifts::slot_at;
 ghost use mathlib.Core.Path.{_≡_};
 ghost use Prim.Native.Nat.{_<_};
 ghost use Rattle.lifts.specs.Lifting.{mostShafts};
-ghost use Rattle.in_place.specs.InPlace.{allBelow, fillable, shaftInPlace, frameInRange, arraysInPlace};
+ghost use Rattle.in_place.specs.InPlace.{allBelow, fillable, rowsInPlace, inRange, depthInPlace, shaftInPlace, arraysInPlace};
 
 // How many slots of a shaft may hold something.
 fn fillable_rows(m: u8, heights: &Heights, x: usize) -> usize
@@ -21,9 +24,9 @@ fn fillable_rows(m: u8, heights: &Heights, x: usize) -> usize
 }
 
 // Whether nothing is recorded above a shaft's height, nor for a shaft not below m.
-fn shaft_in_place(m: u8, heights: &Heights, slots: &Slots, x: usize) -> bool
+fn rows_in_place(m: u8, heights: &Heights, slots: &Slots, x: usize) -> bool
     requires { ⌜ x < mostShafts ⌝ }
-    ensures { λ r. ⌜ r ≡ shaftInPlace m (now (heights .entry)) (now (slots .entry)) x ⌝ }
+    ensures { λ r. ⌜ r ≡ rowsInPlace m (now (heights .entry)) (now (slots .entry)) x ⌝ }
 {
     let rows = fillable_rows(m, heights, x);
     if rows < height_at(heights, x) as usize {
@@ -39,12 +42,40 @@ fn shaft_in_place(m: u8, heights: &Heights, slots: &Slots, x: usize) -> bool
     true
 }
 
-fn shafts_in_place(m: u8, heights: &Heights, slots: &Slots) -> bool
-    ensures { λ r. ⌜ r ≡ allBelow mostShafts (shaftInPlace m (now (heights .entry)) (now (slots .entry))) ⌝ }
+// 1 to 16.
+fn in_range(k: u8) -> bool
+    ensures { λ r. ⌜ r ≡ inRange k ⌝ }
+{
+    if k == 0 {
+        return false;
+    }
+    k <= 16
+}
+
+// Whether the depth of a shaft is in range, or none is recorded where the shaft is not below m.
+fn depth_in_place(m: u8, depths: Depths, x: usize) -> bool
+    ensures { λ r. ⌜ r ≡ depthInPlace m depths x ⌝ }
+{
+    let d = depth_of(depths, x);
+    if x < m as usize { in_range(d) } else { d == 0 }
+}
+
+fn shaft_in_place(m: u8, depths: Depths, heights: &Heights, slots: &Slots, x: usize) -> bool
+    requires { ⌜ x < mostShafts ⌝ }
+    ensures { λ r. ⌜ r ≡ shaftInPlace m depths (now (heights .entry)) (now (slots .entry)) x ⌝ }
+{
+    if !depth_in_place(m, depths, x) {
+        return false;
+    }
+    rows_in_place(m, heights, slots, x)
+}
+
+fn shafts_in_place(m: u8, depths: Depths, heights: &Heights, slots: &Slots) -> bool
+    ensures { λ r. ⌜ r ≡ allBelow mostShafts (shaftInPlace m depths (now (heights .entry)) (now (slots .entry))) ⌝ }
 {
     let mut x: usize = 0;
     while x < 16 {
-        if !shaft_in_place(m, heights, slots, x) {
+        if !shaft_in_place(m, depths, heights, slots, x) {
             return false;
         }
         x += 1;
@@ -52,28 +83,12 @@ fn shafts_in_place(m: u8, heights: &Heights, slots: &Slots) -> bool
     true
 }
 
-// "m or h outside 1 to 16"
-fn frame_in_range(m: u8, h: u8) -> bool
-    ensures { λ r. ⌜ r ≡ frameInRange m h ⌝ }
-{
-    if m == 0 {
-        return false;
-    }
-    if m > 16 {
-        return false;
-    }
-    if h == 0 {
-        return false;
-    }
-    h <= 16
-}
-
 // Whether number 12 does not apply.
-pub fn arrays_in_place(m: u8, h: u8, heights: &Heights, slots: &Slots) -> bool
-    ensures { λ r. ⌜ r ≡ arraysInPlace m h (now (heights .entry)) (now (slots .entry)) ⌝ }
+pub fn arrays_in_place(m: u8, depths: Depths, heights: &Heights, slots: &Slots) -> bool
+    ensures { λ r. ⌜ r ≡ arraysInPlace m depths (now (heights .entry)) (now (slots .entry)) ⌝ }
 {
-    if !frame_in_range(m, h) {
+    if !in_range(m) {
         return false;
     }
-    shafts_in_place(m, heights, slots)
+    shafts_in_place(m, depths, heights, slots)
 }

@@ -33,7 +33,7 @@ use Rattle.making.specs.Made.{MadeIs}
 
 -- the frame of a store with e empty slots
 abbrev pub frameOf : Store → ℕ → Frame
-frameOf s e = record { m = s .m; h = s .h; e = e }
+frameOf s e = record { m = s .m; depths = s .depths; e = e }
 
 module _ (s t : Store) (p : Comparable s t) (e : ℕ) where
   start : Sound s
@@ -44,7 +44,7 @@ module _ (s t : Store) (p : Comparable s t) (e : ℕ) where
 
   -- the goal in the frame of the start
   framed : storeOf (frameOf s e) (t .heights) (t .slots) ≡ t
-  framed = λ i. record { m = p .frame .shafts i; h = p .frame .depths i; heights = t .heights; slots = t .slots }
+  framed = λ i. record { m = p .frame .shafts i; depths = p .frame .depths i; heights = t .heights; slots = t .slots }
 
   pub fits-both : Fits (frameOf s e) (s .heights) × Fits (frameOf s e) (t .heights)
   fits-both = (

@@ -54,9 +54,9 @@ fn make_three(start: Store, goal: Store, out: &mut [u8]) -> usize
     ensures { λ r. ⌜ MadeIs start goal (now (out .entry)) r (now (out .exit)) ⌝ }
 {
     let m = start.m;
-    let h = start.h;
+    let depths = start.depths;
     let e = empty_slots(start) as usize;
-    let f = Frame { m, h, e };
+    let f = Frame { m, depths, e };
     let tops = goal.heights;
     let aims = goal.slots;
     let mut heights = start.heights;

@@ -29,7 +29,7 @@ put heights slots came a b count c q k e =
     let i : a % 16 ≡ a = omega (arith, q .left-below) in
     let j : b % 16 ≡ b = omega (arith, q .entered-below) in
     record {
-      store = λ m h. carried-store (held m h heights slots) a b (k .heights-are) (k .slots-are);
+      store = λ m depths. carried-store (held m depths heights slots) a b (k .heights-are) (k .slots-are);
       end = refl;
       byte = ap (set came count) (e ∙ ap₂ liftByte i j);
     }
@@ -54,22 +54,22 @@ pub record CarriedOn (s : Store) (a b at : ℕ) (came : List ℕ) (t : Store) (a
   pub went : Went s at came 1 t at′ out
   pub moved : Step (s .m) (depth s) (lift a b) (stack s) (stack t)
 
-pub carried-on : (m h : ℕ) {heights slots came heights′ slots′ out : List ℕ} {a b at at′ : ℕ} → Shaped (held m h heights slots) → Allowed (held m h heights slots) a b
-    → at < length came → PutIs heights slots a b at came heights′ slots′ at′ out → CarriedOn (held m h heights slots) a b at came (held m h heights′ slots′) at′ out
+pub carried-on : (m : ℕ) (depths : List ℕ) {heights slots came heights′ slots′ out : List ℕ} {a b at at′ : ℕ} → Shaped (held m depths heights slots) → Allowed (held m depths heights slots) a b
+    → at < length came → PutIs heights slots a b at came heights′ slots′ at′ out → CarriedOn (held m depths heights slots) a b at came (held m depths heights′ slots′) at′ out
 unfolding lifted
-carried-on m h {heights} {slots} {came} {a = a} {b} {at} p q f c =
-    rw (c .store m h, c .end, c .byte)
+carried-on m depths {heights} {slots} {came} {a = a} {b} {at} p q f c =
+    rw (c .store m depths, c .end, c .byte)
     (record {
       went = record {
         steps = record {
           lifts = liftByte a b ∷ [];
-          leads = run-leads p (lifted-shaped (held m h heights slots) a b p q) (record { shafts = refl; depths = refl }) (step (lift-step (held m h heights slots) a b p q) done);
+          leads = run-leads p (lifted-shaped (held m depths heights slots) a b p q) (record { shafts = refl; depths = refl }) (step (lift-step (held m depths heights slots) a b p q) done);
           count = refl;
           bytes = set-written came at (liftByte a b) f;
         };
-        shaped = lifted-shaped (held m h heights slots) a b p q;
+        shaped = lifted-shaped (held m depths heights slots) a b p q;
         room = length-set came at (liftByte a b);
         few = omega arith;
       };
-      moved = lift-step (held m h heights slots) a b p q;
+      moved = lift-step (held m depths heights slots) a b p q;
     })

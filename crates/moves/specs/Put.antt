@@ -9,6 +9,6 @@ use Rattle.store.specs.Slots.{held}
 
 -- the store is what the lift makes of it, and the byte of the lift is the next of the list
 pub record PutIs (heights slots : List ℕ) (a b count : ℕ) (came heights′ slots′ : List ℕ) (count′ : ℕ) (out : List ℕ) : Type 0 where
-  pub store : (m h : ℕ) → held m h heights′ slots′ ≡ lifted (held m h heights slots) a b
+  pub store : (m : ℕ) (depths : List ℕ) → held m depths heights′ slots′ ≡ lifted (held m depths heights slots) a b
   pub end : count′ ≡ count + 1
   pub byte : out ≡ set came count (liftByte a b)

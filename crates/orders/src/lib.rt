@@ -1,5 +1,6 @@
 // Orders (document 02, 1/13): "a lent row of records that each name a cassette and receive its answer". `answered` does the work for one of them. The
 // functions over the row are proved by a walk of their code, by hand.
+use depths::Depths;
 use empties::empty_slots;
 use lifts::Heights;
 use lifts::Slots;
@@ -23,16 +24,16 @@ pub struct Order {
 // One order answered.
 fn answered<'a>(
     m: u8,
-    h: u8,
+    depths: Depths,
     e: usize,
     heights: &'a Heights,
     slots: &'a Slots,
     order: Order,
 ) -> Order
-    requires { ⌜ Ready (held m h (now heights) (now slots)) e ⌝ }
-    ensures { λ r. ⌜ OrderIs (held m h (now (heights .entry)) (now (slots .entry))) order r ⌝ }
+    requires { ⌜ Ready (held m depths (now heights) (now slots)) e ⌝ }
+    ensures { λ r. ⌜ OrderIs (held m depths (now (heights .entry)) (now (slots .entry))) order r ⌝ }
 {
-    let answer = fewest_lifts(m, h, e, heights, slots, order.cassette);
+    let answer = fewest_lifts(m, depths, e, heights, slots, order.cassette);
     Order {
         cassette: order.cassette,
         number: uncovering_number(answer),
@@ -43,18 +44,18 @@ fn answered<'a>(
 // Every order of a row answered, on an accepted store with e empty slots.
 fn answer_row<'a, 'b>(
     m: u8,
-    h: u8,
+    depths: Depths,
     e: usize,
     heights: &'a Heights,
     slots: &'a Slots,
     orders: &'b mut [Order],
 )
-    requires { ⌜ Ready (held m h (now heights) (now slots)) e ⌝ }
-    ensures { λ _. ⌜ RowIs (held m h (now (heights .entry)) (now (slots .entry))) (now (orders .entry)) (now (orders .exit)) ⌝ }
+    requires { ⌜ Ready (held m depths (now heights) (now slots)) e ⌝ }
+    ensures { λ _. ⌜ RowIs (held m depths (now (heights .entry)) (now (slots .entry))) (now (orders .entry)) (now (orders .exit)) ⌝ }
 {
     let mut i: usize = 0;
     while i < orders.len() {
-        orders[i] = answered(m, h, e, heights, slots, orders[i]);
+        orders[i] = answered(m, depths, e, heights, slots, orders[i]);
         i += 1;
     }
 }
@@ -91,9 +92,10 @@ pub fn uncover(s: Store, orders: &mut [Order]) -> Verdict
 {
     let begun = begin(s);
     if begun.accepted {
+        let depths = s.depths;
         let heights = s.heights;
         let slots = s.slots;
-        answer_row(s.m, s.h, begun.e, &heights, &slots, orders);
+        answer_row(s.m, depths, begun.e, &heights, &slots, orders);
     }
     begun.verdict
 }

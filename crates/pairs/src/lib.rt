@@ -1,6 +1,8 @@
 // Two stores together (document 01, "Which comes first"): "For two stores: the start, the goal, 8, 9".
 
 use blanks::blanks_of;
+use depths::Depths;
+use depths::depth_of;
 use marks::Words;
 use marks::count;
 use marks::same;
@@ -32,6 +34,20 @@ pub struct Compared {
     pub n: usize,
 }
 
+// Whether the depths of two stores are the same, shaft by shaft.
+fn same_depths(a: Depths, b: Depths) -> bool
+    ensures { λ r. ⌜ Decides r (a ≡ b) ⌝ }
+{
+    let mut x: usize = 0;
+    while x < 16 {
+        if depth_of(a, x) != depth_of(b, x) {
+            return false;
+        }
+        x += 1;
+    }
+    true
+}
+
 // Whether two stores have the same shafts and depths.
 fn same_frame(s: Store, t: Store) -> bool
     ensures { λ r. ⌜ Decides r (SameFrame s t) ⌝ }
@@ -39,7 +55,9 @@ fn same_frame(s: Store, t: Store) -> bool
     if s.m != t.m {
         return false;
     }
-    s.h == t.h
+    let a = s.depths;
+    let b = t.depths;
+    same_depths(a, b)
 }
 
 // Whether two stores hold the same cassettes, by the marks and the blanks of each.

@@ -102,7 +102,7 @@ module _ {f : Frame} {heights₀ slots₀ : List ℕ} {b y at₀ : ℕ} {came he
 
       module _ {heights′ slots′ : List ℕ} {at′ : ℕ} {out′ : List ℕ} (r : PutIs heights slots b c at out heights′ slots′ at′ out′) where
         on : CarriedOn (storeOf f heights slots) b c at out (storeOf f heights′ slots′) at′ out′
-        on = carried-on (f .m) (f .h) (u .shaped) allowed room-left r
+        on = carried-on (f .m) (f .depths) (u .shaped) allowed room-left r
 
         lower : heightIn heights b ≡ suc (heightIn heights′ b)
         lower = simp stack-length at (left-lower (on .moved))

@@ -189,7 +189,7 @@ module _ {f : Frame} {heights₀ slots₀ : List ℕ} {a₀ y₀ b y′ at₀ : 
           (lz : l .to .0 ≡ z) (w : FollowIs p (n .cover) l (heightIn heights z) r)
         where
           on : CarriedOn (storeOf f heights slots) x z at out (storeOf f heights′ slots′) at′ out′
-          on = carried-on (f .m) (f .h) (u .shaped) next-allowed (room-left h) c
+          on = carried-on (f .m) (f .depths) (u .shaped) next-allowed (room-left h) c
 
           adv : Advanced (f .m) (depthIn f) (f .e) (kept (storeOf f heights₀ slots₀) a₀ y₀ b y′) b (slot (storeOf f heights₀ slots₀) a₀ y₀) (stack (storeOf f heights slots))
               (stack (storeOf f heights′ slots′)) a (u .under) (n .cover) (n .load) (n .outside) x z
@@ -281,7 +281,7 @@ module _ {f : Frame} {heights₀ slots₀ : List ℕ} {a₀ y₀ b y′ at₀ : 
       pub placed-last : Held f heights₀ slots₀ → CanPlace f heights₀ a₀ y₀ b y′ → at₀ + liftsAhead f heights₀ a₀ y₀ b y′ ≤ length came
           → {heights′ slots′ : List ℕ} {at′ : ℕ} {out′ : List ℕ} → PutIs heights slots a b at out heights′ slots′ at′ out′
           → PlacedIs f heights₀ slots₀ a₀ y₀ b y′ at₀ came heights′ slots′ at′ out′
-      placed-last v q h {heights′} {slots′} {at′} {out′} c = go (carried-on (f .m) (f .h) (u .shaped) last-allowed (room-left h) c)
+      placed-last v q h {heights′} {slots′} {at′} {out′} c = go (carried-on (f .m) (f .depths) (u .shaped) last-allowed (room-left h) c)
         where
           go : CarriedOn (storeOf f heights slots) a b at out (storeOf f heights′ slots′) at′ out′ → PlacedIs f heights₀ slots₀ a₀ y₀ b y′ at₀ came heights′ slots′ at′ out′
           go on =

@@ -1,6 +1,7 @@
-// Plans cases of document 01, "Filled stores to try", that are not among the proved ones, and some with blanks, and prints for each the
+// Plans cases of document 01, "Filled stores to try", that are not among the proved ones, some with blanks and some with unequal depths, and prints for each the
 // number, the count of lifts and whether a replay of the list ends at the goal. Held to the file stdout.
 use check::same;
+use depths::equal;
 use libc::STDOUT_FILENO;
 use marks::blank;
 use numbers::end_number;
@@ -21,7 +22,9 @@ fn same_store(s: Store, t: Store) -> bool {
     if s.m != t.m {
         return false;
     }
-    if s.h != t.h {
+    let e = s.depths;
+    let f = t.depths;
+    if !same(&e, &f) {
         return false;
     }
     let a = s.heights;
@@ -34,10 +37,12 @@ fn same_store(s: Store, t: Store) -> bool {
     same(&c, &d)
 }
 
+// m shafts of depth h with no cassette.
 fn empty(m: u8, h: u8) -> Store {
+    let depths = equal(m, h);
     Store {
         m,
-        h,
+        depths,
         heights: [0u8; 16],
         slots: [0u8; 256],
     }
@@ -230,6 +235,38 @@ fn refused_cases(list: &mut [u8]) {
     show(b"a store of m 0", empty(0, 3), empty(3, 3), list);
 }
 
+// m 3, depths 4, 3 and 2, n 6: cassettes 1 to 6, turned by k among the places [. . .] [. .] [.].
+fn uneven(k: usize) -> Store {
+    let mut s = empty(3, 4);
+    s.depths[1] = 3;
+    s.depths[2] = 2;
+    s = with(s, 0, (k % 6 + 1) as u8);
+    s = with(s, 0, ((k % 6 + 1) % 6 + 1) as u8);
+    s = with(s, 0, ((k % 6 + 2) % 6 + 1) as u8);
+    s = with(s, 1, ((k % 6 + 3) % 6 + 1) as u8);
+    s = with(s, 1, ((k % 6 + 4) % 6 + 1) as u8);
+    with(s, 2, ((k % 6 + 5) % 6 + 1) as u8)
+}
+
+// The same, with the last shaft one deeper.
+fn deeper(k: usize) -> Store {
+    let mut s = uneven(k);
+    s.depths[2] = 3;
+    s
+}
+
+// Row 1 of shaft 0 never changes: e is 3, and the depths are 4, 3 and 2.
+fn uneven_cases(list: &mut [u8]) {
+    show(b"depths 4 3 2, bottom changed", uneven(0), uneven(1), list);
+    show(b"depths 4 3 2, to itself", uneven(0), uneven(0), list);
+}
+
+// With one empty slot more no row is kept, and the frames differ.
+fn deeper_cases(list: &mut [u8]) {
+    show(b"depths 4 3 3, e 4", deeper(0), deeper(1), list);
+    show(b"depths 4 3 2 and 4 3 3", uneven(0), deeper(0), list);
+}
+
 fn full_cases(list: &mut [u8]) {
     show(
         b"m 16, h 16, n 255, to itself",
@@ -275,6 +312,8 @@ fn main() {
     short_cases(b"191 bytes", &mut less);
     short_cases(b"no byte", &mut less[..0]);
     refused_cases(&mut enough);
+    uneven_cases(&mut enough);
+    deeper_cases(&mut enough);
     let mut list = [0u8; 18432];
     full_cases(&mut list);
     full_of_blanks(&mut list);

@@ -15,8 +15,8 @@ use Rattle.store.specs.Slots.{depth, deepest, cassetteCount, listSpace}
 use Rattle.store.proofs.Acceptance.{accepted-sound, accepted-most}
 
 -- an accepted store has few rows and few cassettes
-pub accepted-bounds : (s : Store) → Accepted s → (0 < s .m) × DepthsFit (s .h) × (cassetteCount s ≤ slotCount)
-accepted-bounds s p = let a = accepted-sound s p in (a .some-shaft, a .shaped .rows, accepted-most s p)
+pub accepted-bounds : (s : Store) → Accepted s → DepthsFit (s .depths) × (cassetteCount s ≤ slotCount)
+accepted-bounds s p = let a = accepted-sound s p in (a .shaped .rows, accepted-most s p)
 
 -- the list space as the code counts it
 pub space-counted : (s : Store) (n k : ℕ) → k ≡ spaceFor (greatest (s .m) (depth s)) n → n ≡ cassetteCount s → k ≡ listSpace s

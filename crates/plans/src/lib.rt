@@ -49,7 +49,8 @@ fn too_little(lent: usize, start: Store, n: usize) -> bool
     requires { ⌜ n ≡ cassetteCount start ⌝ }
     ensures { λ r. ⌜ Decides r (lent < listSpace start) ⌝ }
 {
-    lent < list_space(start.m, start.h, n)
+    let depths = start.depths;
+    lent < list_space(start.m, depths, n)
 }
 
 // For two stores that can be compared, and hold n cassettes: 15, 10, or the list.

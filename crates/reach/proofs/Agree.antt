@@ -70,7 +70,7 @@ module _ (s : Store) where
   -- nothing stands in the shafts beyond m
   pub none-beyond : Shaped s → (x : ℕ) → s .m ≤ x → stack s x ≡ []
   unfolding stack rowsDown
-  none-beyond p x h = rw (p .none-beyond x h)
+  none-beyond p x h = let none : height s x ≡ 0 = omega (arith, p .heights x, p .none-beyond x h) in rw none
 
 -- rows 1 to k of two stores agree exactly if the lowest k of the stacks do
 pub rows-agree : (s t : Store) (x k : ℕ) → k ≤ height s x → k ≤ height t x

@@ -13,26 +13,12 @@ use Rattle.store.specs.Lists.{Reachable}
 use Rattle.marks.proofs.Faulted.{both-true}
 use Rattle.in_place.proofs.AllBelow.{all-true, all-of}
 use Rattle.stacks.specs.Deciding.{Decides}
-use Rattle.reach.specs.Pairs.{Comparable}
+use Rattle.reach.specs.Pairs.{sameList, sameFrame, Comparable}
 use Rattle.reach.specs.Rules.{twoShaftReading, floor, RuleFor, Rule}
-use Rattle.reach.specs.Tests.{sameList, sameStore, sameFloor, ruleTestFor, ruleTest}
-use Rattle.stacks.proofs.Deciding.{true-false, decides-as, decides-by, decided}
+use Rattle.reach.specs.Tests.{sameStore, sameFloor, ruleTestFor, ruleTest}
+use Rattle.stacks.proofs.Deciding.{decides-as, decides-by, decided}
+use Rattle.reach.proofs.Sets.{same-list, list-same, list-equal, frame-same, same-frame}
 use Rattle.reach.proofs.Reachability.{reachable-rule, reachable-exactly}
-
-same-list : (l r : List ℕ) → sameList l r ≡ true → l ≡ r
-unfolding sameList
-same-list [] [] e = refl
-same-list [] (y ∷ r) e = absurd (true-false (sym e))
-same-list (x ∷ l) [] e = absurd (true-false (sym e))
-same-list (x ∷ l) (y ∷ r) e = let p = both-true (eqb x y) (sameList l r) e in cc (eqb-true x y (p .0), same-list l r (p .1))
-
-list-same : (l : List ℕ) → sameList l l ≡ true
-unfolding sameList
-list-same [] = refl
-list-same (x ∷ l) = simp (eq-eqb x x refl, list-same l)
-
-list-equal : (l r : List ℕ) → l ≡ r → sameList l r ≡ true
-list-equal l r e = subst (λ (k : List ℕ). sameList l k ≡ true) e (list-same l)
 
 pub list-test : (l r : List ℕ) → Decides (sameList l r) (l ≡ r)
 list-test l r = decides-by (sameList l r) (same-list l r) (list-equal l r)
@@ -40,18 +26,16 @@ list-test l r = decides-by (sameList l r) (same-list l r) (list-equal l r)
 same-store : (s t : Store) → sameStore s t ≡ true → s ≡ t
 unfolding sameStore
 same-store s t e =
-    let p = both-true (eqb (s .m) (t .m) && eqb (s .h) (t .h)) _ e in
-    let f = both-true (eqb (s .m) (t .m)) _ (p .0) in
+    let p = both-true (sameFrame s t) _ e in
+    let f = same-frame s t (p .0) in
     let g = both-true (sameList (s .heights) (t .heights)) _ (p .1) in
-    let a = eqb-true (s .m) (t .m) (f .0) in
-    let b = eqb-true (s .h) (t .h) (f .1) in
     let c = same-list (s .heights) (t .heights) (g .0) in
     let d = same-list (s .slots) (t .slots) (g .1) in
-    λ i. record { m = a i; h = b i; heights = c i; slots = d i }
+    λ i. record { m = f .shafts i; depths = f .depths i; heights = c i; slots = d i }
 
 store-same : (s : Store) → sameStore s s ≡ true
 unfolding sameStore
-store-same s = simp (eq-eqb (s .m) (s .m) refl, eq-eqb (s .h) (s .h) refl, list-same (s .heights), list-same (s .slots))
+store-same s = simp (frame-same s s (record { shafts = refl; depths = refl }), list-same (s .heights), list-same (s .slots))
 
 pub store-test : (s t : Store) → Decides (sameStore s t) (s ≡ t)
 store-test s t = decides-by (sameStore s t) (same-store s t) (λ e. subst (λ (u : Store). sameStore s u ≡ true) e (store-same s))

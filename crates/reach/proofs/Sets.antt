@@ -2,18 +2,35 @@
 use borrow.Author.Tests.{eq-eqb, ne-eqb, eqb-true}
 use mathlib.Core.Bool.{Bool, true, false, not, _&&_}
 use mathlib.Core.List.{List, [], _∷_}
-use mathlib.Core.Path.{_≡_, refl, ap}
+use mathlib.Core.Path.{_≡_, refl, sym, ap, subst}
 use Prim.Native.Nat.{ℕ, _<_}
 use native.Mathlib.Decide.{ℕ-discrete, decLt}
 use native.Mathlib.Omega.{arith}
 use lib.Dec.{eqb}
 use Rattle.stacks.specs.Count.{count, one}
+use Rattle.stacks.proofs.Deciding.{true-false}
 use Rattle.marks.specs.Cassettes.{given}
 use Rattle.marks.proofs.Faulted.{first-none, first-either, given-either, not-given, both-true}
 use Rattle.store.specs.declared.Store.{Store}
 use Rattle.store.specs.Slots.{SameFrame, cassettes}
 use Rattle.store.specs.Accept.{storeFault}
-use Rattle.reach.specs.Pairs.{agreeOn, sameFrame, frameFault, cassettesFault, pairFault, SameCassettes, Comparable}
+use Rattle.reach.specs.Pairs.{sameList, agreeOn, sameFrame, frameFault, cassettesFault, pairFault, SameCassettes, Comparable}
+
+-- equality of lists, by its test
+pub same-list : (l r : List ℕ) → sameList l r ≡ true → l ≡ r
+unfolding sameList
+same-list [] [] e = refl
+same-list [] (y ∷ r) e = absurd (true-false (sym e))
+same-list (x ∷ l) [] e = absurd (true-false (sym e))
+same-list (x ∷ l) (y ∷ r) e = let p = both-true (eqb x y) (sameList l r) e in cc (eqb-true x y (p .0), same-list l r (p .1))
+
+pub list-same : (l : List ℕ) → sameList l l ≡ true
+unfolding sameList
+list-same [] = refl
+list-same (x ∷ l) = simp (eq-eqb x x refl, list-same l)
+
+pub list-equal : (l r : List ℕ) → l ≡ r → sameList l r ≡ true
+list-equal l r e = subst (λ (k : List ℕ). sameList l k ≡ true) e (list-same l)
 
 agree-true : (r k l : List ℕ) → agreeOn r k l ≡ true → (c : ℕ) → 0 < count c r → count c k ≡ count c l
 unfolding agreeOn count
@@ -55,14 +72,23 @@ other-cassettes s t n =
     go true n = absurd (n refl)
     go false n = refl
 
+-- one frame, by its test
+pub frame-same : (s t : Store) → SameFrame s t → sameFrame s t ≡ true
+unfolding sameFrame
+frame-same s t f = simp (eq-eqb (s .m) (t .m) (f .shafts), list-equal (s .depths) (t .depths) (f .depths))
+
+pub same-frame : (s t : Store) → sameFrame s t ≡ true → SameFrame s t
+unfolding sameFrame
+same-frame s t e =
+    let p = both-true (eqb (s .m) (t .m)) (sameList (s .depths) (t .depths)) e in
+    record { shafts = eqb-true (s .m) (t .m) (p .0); depths = same-list (s .depths) (t .depths) (p .1) }
+
 -- number 8 applies exactly if two stores have not one frame
 pub frames-agree : (s t : Store) → SameFrame s t → frameFault s t ≡ 0
-frames-agree s t f = simp (eq-eqb _ _ (f .shafts), eq-eqb _ _ (f .depths))
+frames-agree s t f = simp (frame-same s t f)
 
 pub agreed-frames : (s t : Store) → frameFault s t ≡ 0 → SameFrame s t
-agreed-frames s t e =
-    let f = both-true (eqb (s .m) (t .m)) (eqb (s .h) (t .h)) (not-given _ 7 e) in
-    record { shafts = eqb-true (s .m) (t .m) (f .0); depths = eqb-true (s .h) (t .h) (f .1) }
+agreed-frames s t e = same-frame s t (not-given _ 7 e)
 
 -- the numbers that two stores can be refused with are those of a store, 8 and 9
 pub pair-either : (P : ℕ → Type 0) → P 0 → P 8 → P 9 → ((s : Store) → P (storeFault s)) → (s t : Store) → P (pairFault s t)

@@ -1,5 +1,5 @@
--- Two stores together: number 8 (document 01, "Refused because of the input") and number 9 (request 5/13). 0 is no fault.
-use mathlib.Core.Bool.{Bool, true, not, _&&_}
+-- Two stores together: number 8 (request 7/13) and number 9 (request 5/13). 0 is no fault.
+use mathlib.Core.Bool.{Bool, true, false, not, _&&_}
 use mathlib.Core.List.{List, [], _∷_}
 use mathlib.Core.Path.{_≡_}
 use Prim.Native.Nat.{ℕ}
@@ -10,9 +10,17 @@ use Rattle.store.specs.declared.Store.{Store}
 use Rattle.store.specs.Slots.{SameFrame, cassettes}
 use Rattle.store.specs.Accept.{Accepted, storeFault}
 
--- "8. Start and goal differ in m or h."
-abbrev pub sameFrame : Store → Store → Bool
-sameFrame s t = eqb (s .m) (t .m) && eqb (s .h) (t .h)
+-- equality of lists
+unfoldable pub sameList : List ℕ → List ℕ → Bool
+sameList [] [] = true
+sameList [] (y ∷ r) = false
+sameList (x ∷ l) [] = false
+sameList (x ∷ l) (y ∷ r) = eqb x y && sameList l r
+
+-- Start and goal differ in m, or "any depth differs" (request 7/13).
+unfoldable pub sameFrame : Store → Store → Bool
+unfolding sameList
+sameFrame s t = eqb (s .m) (t .m) && sameList (s .depths) (t .depths)
 
 abbrev pub frameFault : Store → Store → ℕ
 frameFault s t = given (not (sameFrame s t)) 8
@@ -30,7 +38,7 @@ cassettesFault s t =
 
 -- "For two stores: the start, the goal, 8, 9"
 unfoldable pub pairFault : Store → Store → ℕ
-unfolding cassettesFault
+unfolding sameFrame cassettesFault
 pairFault s t = first (storeFault s) (first (storeFault t) (first (frameFault s t) (cassettesFault s t)))
 
 -- every number stands as often in the one store as in the other

@@ -9,7 +9,8 @@ use Rattle.store.specs.Slots.{depth, height, upward, downward, emptyCount}
 unfoldable pub twoShaftReading : Store → List ℕ
 twoShaftReading s = upward s 0 (height s 0) ++ downward s 1 (height s 1)
 
--- "rows 1 to h − e never change (there are none if e ≥ h)": how many rows of shaft x those are
+-- "For m ≥ 3, rows 1 to (depth of that shaft) − e are the ones that never change" (document 02, 7/13; there are none if e is as much as the depth): how many
+-- rows of shaft x those are
 unfoldable pub floor : Store → ℕ → ℕ
 floor s x = depth s x - emptyCount s
 

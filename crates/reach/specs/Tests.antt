@@ -1,22 +1,14 @@
--- Equality of lists and of stores, and the rules of document 01, "Which goals can be reached", each as a test that can be computed.
-use mathlib.Core.Bool.{Bool, true, false, _&&_}
-use mathlib.Core.List.{List, [], _∷_}
+-- Equality of stores, and the rules of document 01, "Which goals can be reached", each as a test that can be computed.
+use mathlib.Core.Bool.{Bool, _&&_}
 use Prim.Native.Nat.{ℕ, zero, suc}
-use lib.Dec.{eqb}
 use Rattle.store.specs.declared.Store.{Store}
 use Rattle.store.specs.Slots.{upward}
 use Rattle.in_place.specs.InPlace.{allBelow}
-use Rattle.reach.specs.Pairs.{sameFrame}
+use Rattle.reach.specs.Pairs.{sameList, sameFrame}
 use Rattle.reach.specs.Rules.{twoShaftReading, floor}
 
-unfoldable pub sameList : List ℕ → List ℕ → Bool
-sameList [] [] = true
-sameList [] (y ∷ r) = false
-sameList (x ∷ l) [] = false
-sameList (x ∷ l) (y ∷ r) = eqb x y && sameList l r
-
 unfoldable pub sameStore : Store → Store → Bool
-unfolding sameList
+unfolding sameList sameFrame
 sameStore s t = sameFrame s t && (sameList (s .heights) (t .heights) && sameList (s .slots) (t .slots))
 
 -- shaft x has the same rows that never change

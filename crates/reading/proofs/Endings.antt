@@ -9,21 +9,22 @@ use Rattle.store.specs.Slots.{held}
 use Rattle.image.specs.declared.ReadAnswer.{ReadAnswer}
 use Rattle.image.specs.Numbers.{readNumber, ReadingGives}
 use Rattle.image.specs.Promises.{ReadIs}
-use Rattle.image.specs.Reading.{Reading, unless, emptyStore, finish, readBody, readImage}
+use Rattle.image.specs.Reading.{Reading, unless, smallest, finish, readBody, readImage}
 use Rattle.image.proofs.Answered.{only-read}
 use Rattle.image.proofs.Numbers.{number-given}
 use Rattle.fields.specs.declared.Cursor.{Cursor}
+use Rattle.fields.specs.declared.Head.{Head}
 use Rattle.fields.specs.Cursors.{ended, EndIs}
 use Rattle.columns.specs.Columns.{ShaftsRead}
 use Rattle.reading.specs.Promises.{BodyIs}
 use Rattle.fields.proofs.Cursors.{unless-one}
 
 -- the shafts and the end, from no marks on
-pub body-ends : (bytes : List ℕ) (m h : ℕ) {heights slots words : List ℕ} {c : Cursor} {heights′ slots′ words′ : List ℕ} {e r : Cursor} → words ≡ noMarks
-    → ShaftsRead bytes m h m heights slots words c heights′ slots′ words′ e → EndIs bytes e r
-    → BodyIs bytes (held m h heights slots) c (held m h heights′ slots′) r
+pub body-ends : (bytes : List ℕ) (h : Head) {depths heights slots words depths′ heights′ slots′ words′ : List ℕ} {e r : Cursor} → words ≡ noMarks
+    → ShaftsRead bytes h (h .m) depths heights slots words depths′ heights′ slots′ words′ e → EndIs bytes e r
+    → BodyIs bytes h (held (h .m) depths heights slots) (held (h .m) depths′ heights′ slots′) r
 unfolding readBody
-body-ends bytes m h z p q =
+body-ends bytes h z p q =
     let a = p .reads .after [] (subst (λ (w : List ℕ). Marked w []) (sym z) nothing-marked) in
     record { same = a .same finish ∙ q .same (a .seen) _ }
 
@@ -46,8 +47,8 @@ module _ (bytes : List ℕ) (c : Cursor) (s : Store) (p : readImage bytes ≡ en
       answer = only-read (is ∙ sym number-is);
     }
 
-    pub read-refused : (c .fault ≡ 0 → ⊥) → ReadIs (readImage bytes) (record { store = emptyStore 1 1; answer = a })
-    read-refused n = answered (emptyStore 1 1) (ap (λ (o : Reading). o .store) (unless-one (c .fault) _ n))
+    pub read-refused : (c .fault ≡ 0 → ⊥) → ReadIs (readImage bytes) (record { store = smallest; answer = a })
+    read-refused n = answered smallest (ap (λ (o : Reading). o .store) (unless-one (c .fault) _ n))
 
     pub read-accepted : c .fault ≡ 0 → ReadIs (readImage bytes) (record { store = s; answer = a })
     read-accepted z = answered s (ap (λ (k : ℕ). unless k (record { store = s; number = 0 }) .store) z)

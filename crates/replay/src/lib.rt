@@ -1,5 +1,6 @@
 // The replay of a list of lifts (document 01, "Which comes first"): run through, or stopped at the first lift that is refused;
 // and how often each cassette was carried (document 02, 2/13).
+use depths::Depths;
 use lift_bytes::entered_of;
 use lift_bytes::left_of;
 use lifts::Heights;
@@ -97,26 +98,26 @@ fn count_carry(carries: &mut [usize], heights: &Heights, from: Shaft, to: Shaft,
     carries[16 * (to.0 as usize) + (row.0 as usize - 1)] = times + 1;
 }
 
-// The lifts of a list, one after the other, on an accepted store of m shafts and depth h, whose heights and slots are changed in place. A
+// The lifts of a list, one after the other, on an accepted store of m shafts with these depths, whose heights and slots are changed in place. A
 // count of 0 is lent for each slot, or none at all where nobody asks how often a cassette was carried.
 pub fn play(
     m: u8,
-    h: u8,
+    depths: Depths,
     heights: &mut Heights,
     slots: &mut Slots,
     carries: &mut [usize],
     list: &[u8],
 ) -> Played
-    requires { ⌜ Accepted (held m h (now heights) (now slots)) ⌝ }
+    requires { ⌜ Accepted (held m depths (now heights) (now slots)) ⌝ }
     requires { ⌜ NoneCounted (now carries) ⌝ }
-    ensures { λ r. ⌜ PlayIs (replayFrom (held m h (now (heights .entry)) (now (slots .entry))) (now (list .entry))) (held m h (now (heights .exit)) (now (slots .exit))) (now (carries .exit)) r ⌝ }
+    ensures { λ r. ⌜ PlayIs (replayFrom (held m depths (now (heights .entry)) (now (slots .entry))) (now (list .entry))) (held m depths (now (heights .exit)) (now (slots .exit))) (now (carries .exit)) r ⌝ }
 {
     let mut count: usize = 0;
     while count < list.len() {
         let b = list[count];
         let from = left_of(b);
         let to = entered_of(b);
-        let tried = try_lift(m, h, heights, slots, from, to);
+        let tried = try_lift(m, depths, heights, slots, from, to);
         let judged = tried.judged;
         if let Judged::Refused(r) = judged {
             return Played {
@@ -150,14 +151,15 @@ pub fn replay(s: Store, list: &[u8]) -> Replayed
             end: End::StoreRefused(f),
         };
     }
+    let depths = s.depths;
     let mut heights = s.heights;
     let mut slots = s.slots;
-    let played = play(s.m, s.h, &mut heights, &mut slots, &mut carries, list);
+    let played = play(s.m, depths, &mut heights, &mut slots, &mut carries, list);
     let end = played.end;
     Replayed {
         store: Store {
             m: s.m,
-            h: s.h,
+            depths,
             heights,
             slots,
         },

@@ -1,7 +1,7 @@
 -- What a replay keeps, also a stopped one: lifts lead to the store that it reached, so that it is accepted, and its image keeps its length.
 use mathlib.Core.List.{List}
-use mathlib.Core.Path.{_≡_, sym, ap, ap₂, _∙_}
-use Prim.Native.Nat.{ℕ, _+_, _*_}
+use mathlib.Core.Path.{_≡_, sym}
+use Prim.Native.Nat.{ℕ}
 use Rattle.store.specs.declared.Store.{Store}
 use Rattle.store.specs.Accept.{Accepted}
 use Rattle.store.specs.Lists.{Leads, Reachable}
@@ -10,15 +10,12 @@ use Rattle.store.proofs.Played.{leads-frame}
 use Rattle.replay.specs.Replaying.{replay}
 use Rattle.replay.proofs.Replays.{replay-accepted, from-reaches}
 use Rattle.reach.proofs.Lasting.{leads-count}
-use Rattle.bits.specs.Fields.{byteCount}
 use Rattle.image.specs.Image.{imageLength}
-use Rattle.image.proofs.Lengths.{length-image}
+use Rattle.image.proofs.Lengths.{length-frame}
 
 module _ {s t : Store} {bs : List ℕ} (p : Shaped s) (l : Leads s bs t) where
   pub leads-length : imageLength t ≡ imageLength s
-  unfolding imageLength
-  leads-length =
-      ap byteCount (length-image t ∙ ap₂ (λ (m n : ℕ). 12 + (5 * m + 8 * n)) (sym (leads-frame l .shafts)) (leads-count p l) ∙ sym (length-image s))
+  leads-length = sym (length-frame s t (leads-frame l) (sym (leads-count p l)))
 
 pub replay-reaches : (s : Store) (bs : List ℕ) → Accepted s → Reachable s (replay s bs .reached)
 replay-reaches s bs e = rw (replay-accepted s bs e) (from-reaches s bs)

@@ -1,4 +1,4 @@
--- The answers of a replay on an image: a fault of the image, 10, and the store reached, written in as many bytes as the image has.
+-- The answers of a replay on an image: a fault of the image, 10, and the store reached, written in as many bytes as the store given would be.
 use borrow.Author.Tests.{lt-ltb, le-ltb}
 use mathlib.Core.List.{List, _++_}
 use mathlib.Core.Path.{_≡_, sym, ap, ap₂, _∙_, subst}
@@ -24,14 +24,14 @@ use Rattle.image.specs.Reading.{Reading}
 use Rattle.image.specs.Writing.{bytesAfter, WriteIs}
 use Rattle.image.proofs.Carried.{length-bytes}
 use Rattle.image.proofs.Refused.{not-refused}
-use Rattle.image.proofs.RoundTrip.{read-written}
+use Rattle.image.proofs.RoundTrip.{read-image}
 use Rattle.calls.specs.Shared.{answerOf, RefusedCall, storeIn, readFault}
 use Rattle.replay_call.specs.ReplayCall.{replayCallFault, ReplayCallIs}
 use Rattle.replay_call.proofs.Kept.{leads-length, replay-reaches}
 use Rattle.calls.proofs.Readings.{Stands}
 
 length-of-image : (s : Store) → length (imageOf s) ≡ imageLength s
-unfolding imageOf
+unfolding imageOf imageLength
 length-of-image s = length-bytes (imageLength s) _
 
 -- an accepted store, written into enough bytes, stands in the first
@@ -41,10 +41,6 @@ unfolding written
 image-written s came out w e h p =
     let z : imageLength s ≡ 0 + length (imageOf s) = omega (arith, length-of-image s) in
     p .bytes ∙ ap (λ (k : ℕ). bytesAfter k s came) (not-refused s came e h) ∙ ap (λ (k : ℕ). imageOf s ++ drop k came) z
-
--- the length of an accepted image is that of the image of its store
-length-read : {a : List ℕ} {s : Store} → ((i : ℕ) → getD a i 0 < 256) → Stands a s → imageLength s ≡ length a
-length-read {a} {s} small e = sym (length-of-image s) ∙ ap length (read-written a s small (e .is) .1)
 
 -- what is left to refuse it: 10
 fault-left : {a : List ℕ} {s : Store} (came : List ℕ) → Stands a s → replayCallFault a came ≡ given (ltb (length came) (imageLength s)) 10
@@ -60,23 +56,22 @@ module _ {a list came : List ℕ} where
       refused-as q (first-stays (readFault a) (given (ltb (length came) (imageLength (storeIn a))) 10) (λ z. n (e ∙ z)) ∙ sym e) n
 
   module _ (small : (i : ℕ) → getD a i 0 < 256) {s : Store} (e : Stands a s) where
-    pub replay-little-space : {r : ℕ} {out : List ℕ} → RefusedCall 10 came out r → length came < length a → ReplayCallIs a list came r out
+    pub replay-little-space : {r : ℕ} {out : List ℕ} → RefusedCall 10 came out r → length came < imageLength s → ReplayCallIs a list came r out
     replay-little-space q h =
         refused-as q
-        (fault-left came e ∙ ap (λ b. given b 10) (lt-ltb (length came) (imageLength s) (omega (arith, length-read small e))))
+        (fault-left came e ∙ ap (λ b. given b 10) (lt-ltb (length came) (imageLength s) h))
         (λ z. omega arith)
 
-    pub replay-answered : {u : Store} {carries : List ℕ} {o : Played} {out : List ℕ} {w : Written} {n r : ℕ} → length a ≤ length came → PlayIs (replayFrom s list) u carries o
+    pub replay-answered : {u : Store} {carries : List ℕ} {o : Played} {out : List ℕ} {w : Written} {n r : ℕ} → imageLength s ≤ length came → PlayIs (replayFrom s list) u carries o
         → WriteIs u came out w → n ≡ endNumber (o .end) → r ≡ answerOf (o .count) n → ReplayCallIs a list came r out
     replay-answered {u} {carries} {o} {out} {w} {n} {r} h d q g k =
         let t = replay s list .reached in
-        let b = read-written a s small (e .is) .0 in
+        let b = read-image a s small (e .is) .sound in
         let p : PlayIs (replay s list) u carries o = rw (replay-accepted s list b) d in
         let l = replay-reaches s list b .leads in
-        let i : imageLength s ≤ length came = omega (arith, length-read small e) in
         let j : imageLength t ≤ length came = omega (arith, leads-length (accepted-shaped s b) l) in
         let q′ : WriteIs t came out w = subst (λ (u : Store). WriteIs u came out w) (p .store) q in
-        let none : replayCallFault a came ≡ 0 = fault-left came e ∙ ap (λ b. given b 10) (le-ltb (length came) (imageLength s) i) in
+        let none : replayCallFault a came ≡ 0 = fault-left came e ∙ ap (λ b. given b 10) (le-ltb (length came) (imageLength s) h) in
         record {
           refused = λ z. absurd (z none);
           replayed = λ _.

@@ -1,5 +1,5 @@
--- What the C call that plays a list promises (document 01, "The image": "A replay called from C writes the store reached as an image, always as long as the
--- one given; 10 comes there before any lift is tried").
+-- What the C call that plays a list promises (document 01, "The image": "A replay called from C writes the store reached as an image .. 10 comes there before any
+-- lift is tried"; document 02, 7/13: it "writes by the same rule, and 10 goes by the length of the image it writes").
 use mathlib.Core.List.{List}
 use mathlib.Core.Path.{_≡_}
 use Prim.Native.Nat.{ℕ}
@@ -11,7 +11,7 @@ use Rattle.moves.specs.Written.{written}
 use Rattle.image.specs.Image.{imageOf, imageLength}
 use Rattle.calls.specs.Shared.{answerOf, storeIn, readFault}
 
--- "10 comes there before any lift is tried"
+-- "10 comes there before any lift is tried": by the image of the store given, which is as long as that of every store that lifts lead to
 abbrev pub replayCallFault : List ℕ → List ℕ → ℕ
 replayCallFault a came = first (readFault a) (given (ltb (length came) (imageLength (storeIn a))) 10)
 

@@ -2,6 +2,7 @@
 use calls::answer;
 use calls::read_one;
 use calls::refused;
+use forms::image_length;
 use numbers::end_number;
 use replay::play;
 use store::Store;
@@ -17,17 +18,19 @@ pub fn call_replay(image: &[u8], list: &[u8], out: &mut [u8]) -> u64
     if number != 0 {
         return refused(number, out);
     }
-    if out.len() < image.len() {
+    let s = one.store;
+    let need = image_length(s);
+    if out.len() < need {
         return refused(10, out);
     }
-    let s = one.store;
+    let depths = s.depths;
     let mut heights = s.heights;
     let mut slots = s.slots;
     let mut uncounted: [usize; 0] = [];
-    let played = play(s.m, s.h, &mut heights, &mut slots, &mut uncounted, list);
+    let played = play(s.m, depths, &mut heights, &mut slots, &mut uncounted, list);
     let reached = Store {
         m: s.m,
-        h: s.h,
+        depths,
         heights,
         slots,
     };

@@ -12,11 +12,11 @@ use Rattle.rooms.specs.declared.Frame.{Frame}
 
 -- the store of a frame, its heights and its slots
 abbrev pub storeOf : Frame → List ℕ → List ℕ → Store
-storeOf f heights slots = held (f .m) (f .h) heights slots
+storeOf f heights slots = held (f .m) (f .depths) heights slots
 
 -- the depth of a shaft
 abbrev pub depthIn : Frame → ℕ → ℕ
-depthIn f = depthBy (f .h)
+depthIn f = depthBy (f .depths)
 
 -- at most 16 shafts of at most 16 rows, and no height passes its depth
 pub record Fits (f : Frame) (heights : List ℕ) : Type 0 where

@@ -1,4 +1,5 @@
 // A store that is lent as its arrays with its frame apart: the shafts that lifts may use, and where there is room.
+use depths::Depths;
 use depths::depth_of;
 use lifts::Heights;
 use lifts::Row;
@@ -13,10 +14,10 @@ ghost use Rattle.lifts.specs.Lifting.{heightIn};
 ghost use Rattle.rooms.specs.Frames.{depthIn, Fits};
 ghost use Rattle.rooms.specs.Rooms.{OutsideIs, SomeOutside};
 
-// The shafts that may be used are those below m; h is their depth, and e slots are empty.
+// The shafts that may be used are those below m, each with its depth; e slots are empty.
 pub struct Frame {
     pub m: u8,
-    pub h: u8,
+    pub depths: Depths,
     pub e: usize,
 }
 
@@ -42,7 +43,8 @@ pub enum Search {
 pub fn depth(f: Frame, x: Shaft) -> u8
     ensures { λ r. ⌜ r ≡ depthIn f (x .0) ⌝ }
 {
-    depth_of(f.h, x.0 as usize)
+    let depths = f.depths;
+    depth_of(depths, x.0 as usize)
 }
 
 // Whether lifts may use a shaft.

@@ -75,13 +75,13 @@ module _ (s t : Store) where
 module _ (a b : List ℕ) where
   pub rows-so : (x k : ℕ) → ((i : ℕ) → i < k → shown a x (suc i) ≡ shown b x (suc i)) → rowsUp a x k ≡ rowsUp b x k
   rows-so x k g =
-      let s : Store = held 0 0 [] a in
-      let t : Store = held 0 0 [] b in
+      let s : Store = held 0 [] [] a in
+      let t : Store = held 0 [] [] b in
       upward-reversed s x k ∙ ap reverse (same-rows s t x k g) ∙ sym (upward-reversed t x k)
 
   pub rows-each : (x k i : ℕ) → rowsUp a x k ≡ rowsUp b x k → i < k → shown a x (suc i) ≡ shown b x (suc i)
   rows-each x k i e h =
-      let s : Store = held 0 0 [] a in
-      let t : Store = held 0 0 [] b in
+      let s : Store = held 0 [] [] a in
+      let t : Store = held 0 [] [] b in
       rows-same s t x k i
       (sym (reverse-reverse (downward s x k)) ∙ ap reverse (sym (upward-reversed s x k) ∙ e ∙ upward-reversed t x k) ∙ reverse-reverse (downward t x k)) h

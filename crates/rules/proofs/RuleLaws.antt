@@ -25,7 +25,7 @@ module _ (s : Store) (p : Shaped s) where
       go : (m : ℕ) → s .m ≡ m → 0 < m → m ≤ 2 → cassetteCount s ≡ height s 0 + height s 1
       go zero e h i = absurd (omega arith)
       go (suc zero) e h i =
-          omega (arith, heights-counted s, ap (λ m. sum m (height s)) e, p .none-beyond 1 (omega arith))
+          omega (arith, heights-counted s, ap (λ m. sum m (height s)) e, p .heights 1, p .none-beyond 1 (omega arith))
       go (suc (suc zero)) e h i =
           omega (arith, heights-counted s, ap (λ m. sum m (height s)) e)
       go (suc (suc (suc m))) e h i = absurd (omega arith)

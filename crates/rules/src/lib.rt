@@ -1,4 +1,5 @@
 // The rules of document 01, "Which goals can be reached", as tests of two stores that can be compared.
+use depths::Depths;
 use depths::depth_of;
 use empties::empty_slots;
 use lifts::Slots;
@@ -62,23 +63,23 @@ fn same_rows(a: &Slots, b: &Slots, x: usize, k: usize) -> bool
     true
 }
 
-// How many rows of a shaft of depth d never change: d − e, or none.
-pub fn floor_rows(d: u8, e: usize) -> usize
-    ensures { λ r. ⌜ r ≡ d - e ⌝ }
+// How many rows of a shaft never change: its depth less e, or none.
+pub fn floor_rows(depths: Depths, x: usize, e: usize) -> usize
+    ensures { λ r. ⌜ r ≡ depthBy depths x - e ⌝ }
 {
-    let rows = d as usize;
+    let rows = depth_of(depths, x) as usize;
     if e < rows { rows - e } else { 0 }
 }
 
 // Whether the rows of the first m shafts that never change agree.
-fn same_floors(m: u8, h: u8, e: usize, a: &Slots, b: &Slots) -> bool
-    requires { ⌜ (m ≤ mostShafts) × DepthsFit h ⌝ }
-    ensures { λ r. ⌜ Decides r ((x : ℕ) → x < m → rowsUp (now (a .entry)) x (depthBy h x - e) ≡ rowsUp (now (b .entry)) x (depthBy h x - e)) ⌝ }
+fn same_floors(m: u8, depths: Depths, e: usize, a: &Slots, b: &Slots) -> bool
+    requires { ⌜ (m ≤ mostShafts) × DepthsFit depths ⌝ }
+    ensures { λ r. ⌜ Decides r ((x : ℕ) → x < m → rowsUp (now (a .entry)) x (depthBy depths x - e) ≡ rowsUp (now (b .entry)) x (depthBy depths x - e)) ⌝ }
 {
     let shafts = m as usize;
     let mut x: usize = 0;
     while x < shafts {
-        if !same_rows(a, b, x, floor_rows(depth_of(h, x), e)) {
+        if !same_rows(a, b, x, floor_rows(depths, x, e)) {
             return false;
         }
         x += 1;
@@ -96,7 +97,8 @@ pub fn rule_holds(start: Store, goal: Store, n: usize) -> bool
         return same_reading(start, goal, n);
     }
     let e = empty_slots(start) as usize;
+    let depths = start.depths;
     let a = start.slots;
     let b = goal.slots;
-    same_floors(start.m, start.h, e, &a, &b)
+    same_floors(start.m, depths, e, &a, &b)
 }

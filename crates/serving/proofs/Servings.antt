@@ -35,7 +35,7 @@ pub heights-deepest : (f : Frame) (heights slots : List ℕ) → Shaped (storeOf
 heights-deepest f heights slots p x =
     elim (decLt x (f .m)) [
       | yes h ↦ omega (arith, p .heights x, term-le-greatest (f .m) (depthIn f) x h)
-      | no h ↦ omega (arith, p .none-beyond x (omega arith))
+      | no h ↦ omega (arith, p .heights x, p .none-beyond x (omega arith))
     ]
 
 module _ {f : Frame} {tops goal done heights slots : List ℕ} {q : Round} (w : OnTheWay f tops goal done heights slots) (r : RoundFor f tops goal done heights slots q) where

@@ -17,7 +17,7 @@ use Rattle.store.specs.Accept.{inPlace, shaftsFault, storeFault, Accepte
 use Rattle.rows.specs.Rows.{rowsFault}
 use Rattle.store.specs.Sound.{Shaped, Sound}
 use Rattle.store.proofs.Counted.{heights-counted}
-use Rattle.store.proofs.InPlace.{shafts-in-range, rows-in-range, in-place-shaped, shaped-in-place}
+use Rattle.store.proofs.InPlace.{shafts-in-range, some-depth, in-place-shaped, shaped-in-place}
 use Rattle.store.proofs.Once.{walked-once, once-walks, cassettes-below}
 use Rattle.store.proofs.Verdicts.{by-shafts}
 use Rattle.store.proofs.Views.{holds-below}
@@ -43,7 +43,7 @@ module _ (s : Store) where
     accepted-sound = record {
       shaped = accepted-shaped;
       some-shaft = shafts-in-range s (none-met .0) .0;
-      some-row = λ x i. rows-in-range s (none-met .0) x .0;
+      some-row = some-depth s (none-met .0);
       no-gap = λ x k h. taken-cassette _ _ (row-none _ (s .slots) x k _ (shaft-taken x (holds-below s x accepted-shaped (omega arith)) .1) h) .0;
       once = walked-once s (s .m) (none-met .1);
     }

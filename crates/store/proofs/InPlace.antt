@@ -1,7 +1,7 @@
 -- When number 12 does not apply: each part of `inPlace`, and what it says of a store.
 use borrow.Author.Tests.{eqb-true, eq-eqb}
-use mathlib.Core.Bool.{true, _&&_}
-use mathlib.Core.Path.{_≡_, _∙_}
+use mathlib.Core.Bool.{Bool, true, _&&_}
+use mathlib.Core.Path.{_≡_, sym, _∙_}
 use Prim.Native.Nat.{ℕ, _≤_, _<_}
 use native.Mathlib.Decide.{decLt}
 use native.Mathlib.Omega.{arith}
@@ -10,11 +10,12 @@ use lib.ListN.{length, getD, List·getD-eq-default}
 use Rattle.marks.specs.Cassettes.{numbers}
 use Rattle.marks.proofs.Faulted.{both-true}
 use Rattle.lifts.specs.Lifting.{mostShafts, mostRows, slotCount}
-use Rattle.depths.proofs.DepthLaws.{depth-some, depth-most, depth-least, rows-most}
-use Rattle.in_place.proofs.InPlace.{range-true, range, height-beyond, slot-above, shaft-in-place}
+use Rattle.depths.specs.Depths.{DepthsFit}
+use Rattle.depths.proofs.DepthLaws.{depth-past}
+use Rattle.in_place.proofs.InPlace.{range-true, range, depth-below, depth-beyond, height-beyond, slot-above, rows-in-place}
 use Rattle.store.specs.declared.Store.{Store}
 use Rattle.store.specs.Slots.{depth, height}
-use Rattle.in_place.specs.InPlace.{inRange, frameInRange, allBelow, shaftInPlace, arraysInPlace}
+use Rattle.in_place.specs.InPlace.{inRange, allBelow, rowsInPlace, depthInPlace, shaftInPlace, arraysInPlace}
 use Rattle.store.specs.Accept.{allShown, typed, inPlace}
 use Rattle.store.specs.Sound.{Shaped}
 use Rattle.in_place.proofs.AllBelow.{all-true, all-of}
@@ -22,67 +23,96 @@ use Rattle.store.proofs.Typed.{shown-at, all-shown}
 
 module _ (s : Store) where
   -- where the arrays have their lengths and hold what slots may show, the frame and the shafts decide
-  pub by-arrays : length (s .heights) ≡ mostShafts → length (s .slots) ≡ slotCount → ((i : ℕ) → getD (s .slots) i 0 < numbers)
-      → inPlace s ≡ arraysInPlace (s .m) (s .h) (s .heights) (s .slots)
+  pub by-arrays : length (s .depths) ≡ mostShafts → length (s .heights) ≡ mostShafts → length (s .slots) ≡ slotCount → ((i : ℕ) → getD (s .slots) i 0 < numbers)
+      → inPlace s ≡ arraysInPlace (s .m) (s .depths) (s .heights) (s .slots)
   unfolding inPlace
-  by-arrays a b c = simp (eq-eqb (length (s .heights)) mostShafts a, eq-eqb (length (s .slots)) slotCount b, all-shown (s .slots) c)
+  by-arrays d a b c = simp (eq-eqb (length (s .depths)) mostShafts d, eq-eqb (length (s .heights)) mostShafts a, eq-eqb (length (s .slots)) slotCount b, all-shown (s .slots) c)
 
   -- what `inPlace` says of a store
   module _ (e : inPlace s ≡ true) where
-    parts : (inRange (s .m) ≡ true) × (inRange (s .h) ≡ true) × (typed s ≡ true) × (allBelow mostShafts (shaftInPlace (s .m) (s .heights) (s .slots)) ≡ true)
+    parts : (inRange (s .m) ≡ true) × (typed s ≡ true) × (allBelow mostShafts (shaftInPlace (s .m) (s .depths) (s .heights) (s .slots)) ≡ true)
     unfolding inPlace
     parts =
         let p = both-true (typed s) _ e in
-        let q = both-true (frameInRange (s .m) (s .h)) _ (p .1) in
-        let r = both-true (inRange (s .m)) (inRange (s .h)) (q .0) in
-        (r .0, r .1, p .0, q .1)
+        let q = both-true (inRange (s .m)) _ (p .1) in
+        (q .0, p .0, q .1)
 
     pub shafts-in-range : (0 < s .m) × (s .m ≤ mostShafts)
     shafts-in-range = range (s .m) (parts .0)
 
-    pub rows-in-range : (x : ℕ) → (0 < depth s x) × (depth s x ≤ mostRows)
-    rows-in-range x = let r = range (s .h) (parts .1) in (depth-some (s .h) x (r .0), depth-most (s .h) x (r .1))
+    lengths : Bool
+    lengths = eqb (length (s .depths)) mostShafts && eqb (length (s .heights)) mostShafts
 
-    arrays-sized : (length (s .heights) ≡ mostShafts) × (length (s .slots) ≡ slotCount)
+    arrays-sized : (length (s .depths) ≡ mostShafts) × (length (s .heights) ≡ mostShafts) × (length (s .slots) ≡ slotCount)
+    unfolding lengths
     arrays-sized =
-        let p = both-true (eqb (length (s .heights)) mostShafts) (eqb (length (s .slots)) slotCount) (both-true _ (allShown (s .slots)) (parts .2) .0) in
-        (eqb-true (length (s .heights)) mostShafts (p .0), eqb-true (length (s .slots)) slotCount (p .1))
+        let p = both-true (lengths && eqb (length (s .slots)) slotCount) (allShown (s .slots)) (parts .1) in
+        let q = both-true lengths (eqb (length (s .slots)) slotCount) (p .0) in
+        let r = both-true (eqb (length (s .depths)) mostShafts) (eqb (length (s .heights)) mostShafts) (q .0) in
+        (eqb-true (length (s .depths)) mostShafts (r .0), eqb-true (length (s .heights)) mostShafts (r .1), eqb-true (length (s .slots)) slotCount (q .1))
 
     slots-numbered : (i : ℕ) → getD (s .slots) i 0 < numbers
-    slots-numbered =
-        shown-at (s .slots)
-        (both-true (eqb (length (s .heights)) mostShafts && eqb (length (s .slots)) slotCount) (allShown (s .slots)) (parts .2) .1)
+    unfolding lengths
+    slots-numbered = shown-at (s .slots) (both-true (lengths && eqb (length (s .slots)) slotCount) (allShown (s .slots)) (parts .1) .1)
 
-    each-in-place : (x : ℕ) → x < mostShafts → shaftInPlace (s .m) (s .heights) (s .slots) x ≡ true
-    each-in-place = all-true mostShafts (shaftInPlace (s .m) (s .heights) (s .slots)) (parts .3)
+    each-in-place : (x : ℕ) → x < mostShafts → (depthInPlace (s .m) (s .depths) x ≡ true) × (rowsInPlace (s .m) (s .heights) (s .slots) x ≡ true)
+    each-in-place x i =
+        both-true (depthInPlace (s .m) (s .depths) x) (rowsInPlace (s .m) (s .heights) (s .slots) x)
+        (all-true mostShafts (shaftInPlace (s .m) (s .depths) (s .heights) (s .slots)) (parts .2) x i)
+
+    depth-in-range : (x : ℕ) → x < s .m → (0 < depth s x) × (depth s x ≤ mostRows)
+    depth-in-range x h =
+        range (depth s x) (sym (depth-below (s .m) (s .depths) x h) ∙ each-in-place x (omega (arith, shafts-in-range .1)) .0)
+
+    no-depth-beyond : (x : ℕ) → s .m ≤ x → depth s x ≡ 0
+    no-depth-beyond x h =
+        elim (decLt x mostShafts) [
+          | yes i ↦ eqb-true (depth s x) 0 (sym (depth-beyond (s .m) (s .depths) x h) ∙ each-in-place x i .0)
+          | no i ↦ depth-past (s .depths) x (omega (arith, arrays-sized .0))
+        ]
+
+    pub depths-fit : DepthsFit (s .depths)
+    depths-fit x = elim (decLt x (s .m)) [ yes h ↦ depth-in-range x h .1 | no h ↦ omega (arith, no-depth-beyond x (omega arith)) ]
+
+    pub some-depth : (x : ℕ) → x < s .m → 0 < depth s x
+    some-depth x h = depth-in-range x h .0
 
     no-height-beyond : (x : ℕ) → s .m ≤ x → height s x ≡ 0
     no-height-beyond x h =
         elim (decLt x mostShafts) [
-          | yes i ↦ height-beyond (s .m) (s .heights) (s .slots) x (each-in-place x i) h
-          | no i ↦ List·getD-eq-default (s .heights) 0 (omega (arith, arrays-sized .0))
+          | yes i ↦ height-beyond (s .m) (s .heights) (s .slots) x (each-in-place x i .1) h
+          | no i ↦ List·getD-eq-default (s .heights) 0 (omega (arith, arrays-sized .1))
         ]
 
     -- where besides no shaft below m is too high, the store is shaped
     pub in-place-shaped : ((x : ℕ) → x < s .m → height s x ≤ depth s x) → Shaped s
     in-place-shaped low = record {
-      heights-sized = arrays-sized .0;
-      slots-sized = arrays-sized .1;
+      depths-sized = arrays-sized .0;
+      heights-sized = arrays-sized .1;
+      slots-sized = arrays-sized .2;
       numbered = slots-numbered;
       shafts = shafts-in-range .1;
-      rows = λ x. rows-in-range x .1;
+      rows = depths-fit;
       heights = λ x. elim (decLt x (s .m)) [ yes h ↦ low x h | no h ↦ omega (arith, no-height-beyond x (omega arith)) ];
-      none-beyond = no-height-beyond;
-      none-above = λ x k i. slot-above (s .m) (s .heights) (s .slots) x (each-in-place x i) k;
+      none-beyond = no-depth-beyond;
+      none-above = λ x k i. slot-above (s .m) (s .heights) (s .slots) x (each-in-place x i .1) k;
     }
 
   -- a shaped store with a shaft and a row is in place
-  pub shaped-in-place : Shaped s → 0 < s .m → ((x : ℕ) → x < s .m → 0 < depth s x) → inPlace s ≡ true
-  shaped-in-place p m h =
-      by-arrays (p .heights-sized) (p .slots-sized) (p .numbered)
-      ∙ simp (
-        range-true (s .m) m (p .shafts),
-        range-true (s .h) (depth-least (s .h) 0 (h 0 m)) (rows-most (s .h) 0 (p .rows 0)),
-        all-of mostShafts (shaftInPlace (s .m) (s .heights) (s .slots))
-            (λ x i. shaft-in-place (s .m) (s .heights) (s .slots) x (p .none-beyond x) (λ k. p .none-above x k i)),
-      )
+  module _ (p : Shaped s) (m : 0 < s .m) (some : (x : ℕ) → x < s .m → 0 < depth s x) where
+    depth-placed : (x : ℕ) → depthInPlace (s .m) (s .depths) x ≡ true
+    depth-placed x =
+        elim (decLt x (s .m)) [
+          | yes h ↦ depth-below (s .m) (s .depths) x h ∙ range-true (depth s x) (some x h) (p .rows x)
+          | no h ↦ (let b : s .m ≤ x = omega arith in depth-beyond (s .m) (s .depths) x b ∙ eq-eqb (depth s x) 0 (p .none-beyond x b))
+        ]
+
+    shaft-placed : (x : ℕ) → x < mostShafts → shaftInPlace (s .m) (s .depths) (s .heights) (s .slots) x ≡ true
+    shaft-placed x i =
+        simp (depth-placed x)
+        (rows-in-place (s .m) (s .heights) (s .slots) x (λ h. omega (arith, p .heights x, p .none-beyond x h)) (λ k. p .none-above x k i))
+
+    pub shaped-in-place : inPlace s ≡ true
+    shaped-in-place =
+        by-arrays (p .depths-sized) (p .heights-sized) (p .slots-sized) (p .numbered)
+        ∙ simp (range-true (s .m) m (p .shafts), all-of mostShafts (shaftInPlace (s .m) (s .depths) (s .heights) (s .slots)) shaft-placed)

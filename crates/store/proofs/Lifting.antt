@@ -38,7 +38,7 @@ module _ (s : Store) (x y : ℕ) where
 
   pub content-at : hasSlot s x y ≡ true → getD (s .slots) (16 * x + (y - 1)) 0 ≡ contentOf s x y
   unfolding contentOf
-  content-at e = rw e (sym (shown-place (s .slots) x y (slot-range (s .m) (s .h) x y e .1 .0)))
+  content-at e = rw e (sym (shown-place (s .slots) x y (slot-range (s .m) (s .depths) x y e .1 .0)))
 
 -- a lift judged by the depth and the heights of a store
 pub judged-in : (s : Store) (a b : ℕ) {d left entered : ℕ} → d ≡ depth s b → left ≡ height s a → entered ≡ height s b → refusalBy (s .m) d a b left entered ≡ liftRefusal s a b
@@ -57,9 +57,9 @@ can-carry s a b p q = record {
 
 -- heights and slots that a lift has made are those of the store after it
 pub carried-store : (s : Store) (a b : ℕ) {heights slots : List ℕ} → heights ≡ heightsAfter (s .heights) a b → slots ≡ slotsAfter (s .heights) (s .slots) a b
-    → _≡_ {A = Store} (record { m = s .m; h = s .h; heights = heights; slots = slots }) (lifted s a b)
+    → _≡_ {A = Store} (record { m = s .m; depths = s .depths; heights = heights; slots = slots }) (lifted s a b)
 unfolding lifted
-carried-store s a b e f = λ i. record { m = s .m; h = s .h; heights = e i; slots = f i }
+carried-store s a b e f = λ i. record { m = s .m; depths = s .depths; heights = e i; slots = f i }
 
 when-some : (k : ℕ) (t s : Store) → (k ≡ 0 → ⊥) → s ≡ whenNone k t s
 when-some zero t s n = absurd (n refl)

@@ -59,6 +59,7 @@ lifted-shaped s a b p q =
     let t : Store = lifted s a b in
     let v : Moved s a b t = lift-moves s a b p q in
     record {
+      depths-sized = p .depths-sized;
       heights-sized = simp length-set (p .heights-sized);
       slots-sized = simp placed-length (p .slots-sized);
       numbered = placed-numbered (placedAt (s .slots) a (height s a) 0) b (suc (height s b)) _ (slot-numbered s a (height s a) (p .numbered)) (placed-numbered (s .slots) a (height s a) 0 (omega arith) (p .numbered));
@@ -66,7 +67,7 @@ lifted-shaped s a b p q =
       rows = p .rows;
       heights = at-and-elsewhere (λ x. height t x ≤ depth s x) a b (omega (arith, p .heights a)) (omega arith)
           (λ x i j. rw (v .others x i j) (p .heights x));
-      none-beyond = λ x i. v .others x (omega arith) (omega arith) ∙ p .none-beyond x i;
+      none-beyond = p .none-beyond;
       none-above = at-and-elsewhere (λ x. (k : ℕ) → x < mostShafts → k < mostRows → height t x ≤ k → slot t x (suc k) ≡ 0) a b
           (λ k i j h. elim (ℕ-discrete (suc k) (height s a)) [
             | yes e ↦ ap (slot t a) e ∙ v .gone
@@ -78,7 +79,7 @@ lifted-shaped s a b p q =
 
 -- a shaft that holds a cassette is one of the store's
 pub holds-below : (s : Store) (x : ℕ) → Shaped s → 0 < height s x → x < s .m
-holds-below s x p h = elim (decLt x (s .m)) [ yes i ↦ i | no i ↦ absurd (omega (arith, p .none-beyond x (omega arith))) ]
+holds-below s x p h = elim (decLt x (s .m)) [ yes i ↦ i | no i ↦ absurd (omega (arith, p .heights x, p .none-beyond x (omega arith))) ]
 
 -- what a lift makes of each stack
 module _ (s : Store) (a b : ℕ) (p : Shaped s) (q : Allowed s a b) where
@@ -164,4 +165,4 @@ module _ (s t : Store) (p : Shaped s) (q : Shaped t) (g : (x : ℕ) → stack s 
 
 -- no two shaped stores of one frame have the same stacks
 pub same-stacks : (s t : Store) → Shaped s → Shaped t → SameFrame s t → ((x : ℕ) → stack s x ≡ stack t x) → s ≡ t
-same-stacks s t p q f g = λ i. record { m = f .shafts i; h = f .depths i; heights = same-heights s t p q g i; slots = same-slots s t p q g i }
+same-stacks s t p q f g = λ i. record { m = f .shafts i; depths = f .depths i; heights = same-heights s t p q g i; slots = same-slots s t p q g i }

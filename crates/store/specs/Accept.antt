@@ -8,7 +8,7 @@ use lib.ListN.{length}
 use lib.Dec.{ltb, eqb}
 use Rattle.marks.specs.Cassettes.{numbers, given, first}
 use Rattle.lifts.specs.Lifting.{mostShafts, slotCount}
-use Rattle.in_place.specs.InPlace.{allBelow, shaftInPlace, arraysInPlace}
+use Rattle.in_place.specs.InPlace.{allBelow, rowsInPlace, arraysInPlace}
 use Rattle.rows.specs.Rows.{rowsFault}
 use Rattle.store.specs.declared.Store.{Store}
 use Rattle.store.specs.Slots.{depth, height, cassettesBelow}
@@ -18,17 +18,17 @@ unfoldable pub allShown : List ℕ → Bool
 allShown [] = true
 allShown (c ∷ l) = ltb c numbers && allShown l
 
--- The arrays of a store value have 16 and 256 places, and a slot holds a number 0 to 255. The types of the fields say so of every value that code can
+-- The arrays of a store value have 16, 16 and 256 places, and a slot holds a number 0 to 255. The types of the fields say so of every value that code can
 -- hold; here it is said of every value.
 abbrev pub typed : Store → Bool
-typed s = (eqb (length (s .heights)) mostShafts && eqb (length (s .slots)) slotCount) && allShown (s .slots)
+typed s = ((eqb (length (s .depths)) mostShafts && eqb (length (s .heights)) mostShafts) && eqb (length (s .slots)) slotCount) && allShown (s .slots)
 
 -- number 12 does not apply
 unfoldable pub inPlace : Store → Bool
-unfolding allBelow shaftInPlace allShown
-inPlace s = typed s && arraysInPlace (s .m) (s .h) (s .heights) (s .slots)
+unfolding allBelow rowsInPlace allShown
+inPlace s = typed s && arraysInPlace (s .m) (s .depths) (s .heights) (s .slots)
 
--- "3. A height above h.", and then the faults of the rows
+-- 3, a height above the depth of its shaft (request 7/13), and then the faults of the rows
 abbrev pub shaftFault : Store → ℕ → ℕ
 shaftFault s x = first (given (ltb (depth s x) (height s x)) 3) (rowsFault (cassettesBelow s x) (s .slots) x (height s x))
 

@@ -20,7 +20,7 @@ liftRefusal s a b = refusalBy (s .m) (depth s b) a b (height s a) (height s b)
 
 -- the store after a lift from a to b
 unfoldable pub lifted : Store → ℕ → ℕ → Store
-lifted s a b = record { m = s .m; h = s .h; heights = heightsAfter (s .heights) a b; slots = slotsAfter (s .heights) (s .slots) a b }
+lifted s a b = record { m = s .m; depths = s .depths; heights = heightsAfter (s .heights) a b; slots = slotsAfter (s .heights) (s .slots) a b }
 
 -- "For a lift: the store, 11, 13, 14."
 unfoldable pub liftNumber : Store → ℕ → ℕ → ℕ

@@ -1,5 +1,5 @@
--- The store, slot by slot (document 000, Definition 3.1; document 01, "The store"). A store value has m shafts of depth h, counted from 0; a height
--- for each shaft; and a number for each slot, 16 slots for a shaft, from row 1 at the bottom.
+-- The store, slot by slot (document 000, Definition 3.1; document 01, "The store"). A store value has m shafts, counted from 0; a
+-- depth (document 02, 7/13) and a height for each shaft; and a number for each slot, 16 slots for a shaft, from row 1 at the bottom.
 use mathlib.Core.Bool.{Bool, cond}
 use mathlib.Core.List.{List, [], _++_}
 use mathlib.Core.Path.{_≡_}
@@ -12,12 +12,12 @@ use Rattle.rows.specs.Rows.{rowsUp, rowsDown}
 use Rattle.store.specs.declared.Store.{Store}
 
 -- a store of its parts
-abbrev pub held : ℕ → ℕ → List ℕ → List ℕ → Store
-held m h heights slots = record { m = m; h = h; heights = heights; slots = slots }
+abbrev pub held : ℕ → List ℕ → List ℕ → List ℕ → Store
+held m depths heights slots = record { m = m; depths = depths; heights = heights; slots = slots }
 
 -- the depth of shaft x
 abbrev pub depth : Store → ℕ → ℕ
-depth s x = depthBy (s .h) x
+depth s x = depthBy (s .depths) x
 
 -- the depth of the deepest shaft
 unfoldable pub deepest : Store → ℕ
@@ -26,7 +26,7 @@ deepest s = greatest (s .m) (depth s)
 -- Two stores have the same shafts and depths.
 pub record SameFrame (s t : Store) : Type 0 where
   pub shafts : s .m ≡ t .m
-  pub depths : s .h ≡ t .h
+  pub depths : s .depths ≡ t .depths
 
 abbrev pub height : Store → ℕ → ℕ
 height s x = heightIn (s .heights) x
@@ -41,7 +41,7 @@ topOf s x = slot s x (height s x)
 
 -- the store has row y of shaft x
 abbrev pub hasSlot : Store → ℕ → ℕ → Bool
-hasSlot s = slotThere (s .m) (s .h)
+hasSlot s = slotThere (s .m) (s .depths)
 
 -- what a caller who names a shaft and a row is told: 0 where the store has no such slot
 unfoldable pub contentOf : Store → ℕ → ℕ → ℕ
@@ -69,16 +69,17 @@ unfoldable pub cassettes : Store → List ℕ
 unfolding cassettesBelow
 cassettes s = cassettesBelow s (s .m)
 
--- "n is the count of cassettes, e = m × h − n the count of empty slots": the sum of the depths less n
+-- "n is the count of cassettes"
 unfoldable pub cassetteCount : Store → ℕ
 unfolding cassettes
 cassetteCount s = length (cassettes s)
 
+-- "e is now the sum of the depths less n" (document 02, 7/13): the count of empty slots
 unfoldable pub emptyCount : Store → ℕ
 unfolding cassetteCount
 emptyCount s = sum (s .m) (depth s) - cassetteCount s
 
--- "The list space needed is 4hn + 8n bytes"
+-- "The list space needed is 4hn + 8n bytes"; "h is the deepest shaft" (document 02, 7/13)
 unfoldable pub listSpace : Store → ℕ
 unfolding cassetteCount deepest
 listSpace s = spaceFor (deepest s) (cassetteCount s)

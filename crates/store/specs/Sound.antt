@@ -11,13 +11,14 @@ use Rattle.store.specs.Slots.{depth, height, slot, cassettes}
 -- the arrays have their lengths and hold what a slot may show, there are at most 16 shafts of at most 16 rows, no height passes its depth, and nothing
 -- is recorded beyond
 pub record Shaped (s : Store) : Type 0 where
+  pub depths-sized : length (s .depths) ≡ mostShafts
   pub heights-sized : length (s .heights) ≡ mostShafts
   pub slots-sized : length (s .slots) ≡ slotCount
   pub numbered : (i : ℕ) → getD (s .slots) i 0 < numbers
   pub shafts : s .m ≤ mostShafts
   pub rows : (x : ℕ) → depth s x ≤ mostRows
   pub heights : (x : ℕ) → height s x ≤ depth s x
-  pub none-beyond : (x : ℕ) → s .m ≤ x → height s x ≡ 0
+  pub none-beyond : (x : ℕ) → s .m ≤ x → depth s x ≡ 0
   pub none-above : (x k : ℕ) → x < mostShafts → k < mostRows → height s x ≤ k → slot s x (suc k) ≡ 0
 
 pub record Sound (s : Store) : Type 0 where

@@ -3,6 +3,7 @@ use crate::Checked;
 use crate::Fault;
 use crate::Store;
 use crate::Verdict;
+use depths::Depths;
 use depths::depth_of;
 use in_place::arrays_in_place;
 use lifts::Heights;
@@ -23,16 +24,22 @@ ghost use Rattle.store.specs.Checking.{ShaftsAre};
 ghost use Rattle.store.specs.Promises.{CheckIs};
 
 // The shafts in the order of an image, each with its height and then its rows.
-fn check_shafts(m: u8, h: u8, heights: &Heights, slots: &Slots, marks: &mut Words) -> Verdict
-    requires { ⌜ (m ≤ mostShafts) × DepthsFit h ⌝ }
+fn check_shafts(
+    m: u8,
+    depths: Depths,
+    heights: &Heights,
+    slots: &Slots,
+    marks: &mut Words,
+) -> Verdict
+    requires { ⌜ (m ≤ mostShafts) × DepthsFit depths ⌝ }
     requires { ⌜ now marks ≡ noMarks ⌝ }
-    ensures { λ r. ⌜ ShaftsAre (held m h (now (heights .entry)) (now (slots .entry))) (now (marks .exit)) r ⌝ }
+    ensures { λ r. ⌜ ShaftsAre (held m depths (now (heights .entry)) (now (slots .entry))) (now (marks .exit)) r ⌝ }
 {
     let shafts = m as usize;
     let mut x: usize = 0;
     while x < shafts {
         let rows = height_at(heights, x);
-        if depth_of(h, x) < rows {
+        if depth_of(depths, x) < rows {
             return Verdict::Refused(Fault::TooHigh);
         }
         match take_rows(slots, x, rows as usize, marks) {
@@ -63,13 +70,14 @@ impl Store {
     pub fn check(self) -> Checked
         ensures { λ r. ⌜ CheckIs (storeFault self) (cassettes self) r ⌝ }
     {
+        let depths = self.depths;
         let heights = self.heights;
         let slots = self.slots;
-        if !arrays_in_place(self.m, self.h, &heights, &slots) {
+        if !arrays_in_place(self.m, depths, &heights, &slots) {
             return refused(Fault::OutOfPlace);
         }
         let mut marks = none();
-        if let Verdict::Refused(f) = check_shafts(self.m, self.h, &heights, &slots, &mut marks) {
+        if let Verdict::Refused(f) = check_shafts(self.m, depths, &heights, &slots, &mut marks) {
             return refused(f);
         }
         Checked {

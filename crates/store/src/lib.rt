@@ -3,6 +3,7 @@
 pub mod accept;
 pub mod lift;
 
+use depths::Depths;
 use lifts::Carried;
 use lifts::Heights;
 use lifts::Judged;
@@ -10,10 +11,10 @@ use lifts::Refusal;
 use lifts::Slots;
 use marks::Words;
 
-// m shafts of depth h; the height of each shaft; and the slots, 16 for a shaft from row 1 upward, 0 for an empty one.
+// m shafts; the depth and the height of each shaft; and the slots, 16 for a shaft from row 1 upward, 0 for an empty one.
 pub struct Store {
     pub m: u8,
-    pub h: u8,
+    pub depths: Depths,
     pub heights: Heights,
     pub slots: Slots,
 }

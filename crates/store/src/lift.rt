@@ -5,6 +5,7 @@ use crate::Lifted;
 use crate::Store;
 use crate::Tried;
 use crate::Verdict;
+use depths::Depths;
 use depths::depth_of;
 use depths::slot_there;
 use lifts::Carried;
@@ -19,6 +20,7 @@ use lifts::judge;
 use marks::Cassette;
 ghost use mathlib.Core.Path.{_≡_};
 ghost use Rattle.lifts.specs.Numbers.{judgedNumber};
+ghost use Rattle.depths.specs.Depths.{depthBy};
 ghost use Rattle.store.specs.Numbers.{answerNumber};
 ghost use Rattle.store.specs.Slots.{held, height, hasSlot, contentOf};
 ghost use Rattle.store.specs.Promises.{TriedIs, LiftIs};
@@ -34,21 +36,28 @@ fn nothing() -> Carried
     }
 }
 
-// A lift tried in the heights and the slots of a store of m shafts and depth h: made in place, or refused and nothing changed.
+// The depth of the shaft that a lift enters.
+fn depth_entered(depths: Depths, to: Shaft) -> u8
+    ensures { λ r. ⌜ r ≡ depthBy depths (to .0) ⌝ }
+{
+    depth_of(depths, to.0 as usize)
+}
+
+// A lift tried in the heights and the slots of a store of m shafts with these depths: made in place, or refused and nothing changed.
 pub fn try_lift(
     m: u8,
-    h: u8,
+    depths: Depths,
     heights: &mut Heights,
     slots: &mut Slots,
     from: Shaft,
     to: Shaft,
 ) -> Tried
-    requires { ⌜ Shaped (held m h (now heights) (now slots)) ⌝ }
-    ensures { λ r. ⌜ TriedIs (held m h (now (heights .entry)) (now (slots .entry))) (from .0) (to .0) (held m h (now (heights .exit)) (now (slots .exit))) r ⌝ }
+    requires { ⌜ Shaped (held m depths (now heights) (now slots)) ⌝ }
+    ensures { λ r. ⌜ TriedIs (held m depths (now (heights .entry)) (now (slots .entry))) (from .0) (to .0) (held m depths (now (heights .exit)) (now (slots .exit))) r ⌝ }
 {
     let left = height_of(heights, from);
     let entered = height_of(heights, to);
-    if let Judged::Refused(r) = judge(m, depth_of(h, to.0 as usize), from, to, left, entered) {
+    if let Judged::Refused(r) = judge(m, depth_entered(depths, to), from, to, left, entered) {
         return Tried {
             judged: Judged::Refused(r),
             carried: nothing(),
@@ -83,7 +92,8 @@ impl Store {
     pub fn has_slot(self, x: Shaft, y: Row) -> bool
         ensures { λ r. ⌜ r ≡ hasSlot self (x .0) (y .0) ⌝ }
     {
-        slot_there(self.m, self.h, x, y)
+        let depths = self.depths;
+        slot_there(self.m, depths, x, y)
     }
 
     // The content of a slot, 0 for an empty one and where the store has no such slot.
@@ -111,15 +121,16 @@ impl Store {
                 answer: Answer::StoreRefused(f),
             };
         }
+        let depths = self.depths;
         let mut heights = self.heights;
         let mut slots = self.slots;
-        let tried = try_lift(self.m, self.h, &mut heights, &mut slots, from, to);
+        let tried = try_lift(self.m, depths, &mut heights, &mut slots, from, to);
         let judged = tried.judged;
         let carried = tried.carried;
         Lifted {
             store: Store {
                 m: self.m,
-                h: self.h,
+                depths,
                 heights,
                 slots,
             },

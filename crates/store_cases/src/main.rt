@@ -1,5 +1,6 @@
 // Runs stores, lifts and replays beyond the proved cases and prints the number that each gets (0: nothing refused), what lifts tell and how
 // often cassettes were carried. Held to the file stdout.
+use depths::equal;
 use libc::STDOUT_FILENO;
 use lifts::Row;
 use lifts::Shaft;
@@ -16,10 +17,12 @@ fn say(what: &[u8], number: u8) {
     io::write_all(STDOUT_FILENO, b"\n");
 }
 
+// m shafts of depth h with no cassette.
 fn empty(m: u8, h: u8) -> Store {
+    let depths = equal(m, h);
     Store {
         m,
-        h,
+        depths,
         heights: [0u8; 16],
         slots: [0u8; 256],
     }
@@ -52,11 +55,19 @@ fn singles() -> Store {
     s
 }
 
-// The example with another number in a slot, or another height.
+// The example with another number in a slot, another depth, or another height.
 fn with_slot(i: usize, c: u8) -> Store {
     let mut s = example();
     if i < 256 {
         s.slots[i] = c;
+    }
+    s
+}
+
+fn with_depth(x: usize, depth: u8) -> Store {
+    let mut s = example();
+    if x < 16 {
+        s.depths[x] = depth;
     }
     s
 }
@@ -77,6 +88,16 @@ fn frame_cases() {
     check(b"h 17: ", empty(1, 17));
 }
 
+// The depths of the example are 2, 2 and 2, its heights 2, 0 and 1.
+fn depth_cases() {
+    check(b"shaft 1 of depth 1: ", with_depth(1, 1));
+    check(b"shaft 1 of depth 16: ", with_depth(1, 16));
+    check(b"shaft 1 of depth 17: ", with_depth(1, 17));
+    check(b"shaft 1 of depth 0: ", with_depth(1, 0));
+    check(b"a depth past m: ", with_depth(3, 1));
+    check(b"shaft 0 of depth 1: ", with_depth(0, 1));
+}
+
 fn slot_cases() {
     check(b"the example: ", example());
     check(b"a slot above the height: ", with_slot(2, 9));
@@ -89,9 +110,10 @@ fn slot_cases() {
 
 // Every slot that the value records holds 7.
 fn crowded(m: u8, h: u8) -> Store {
+    let depths = equal(m, h);
     Store {
         m,
-        h,
+        depths,
         heights: [0u8; 16],
         slots: [7u8; 256],
     }
@@ -146,6 +168,14 @@ fn lift_cases() {
     lift(b"lift 200>1: ", example(), 200, 1);
     lift(b"lift 1>0, empty to full: ", example(), 1, 0);
     lift(b"lift 2>0, to a full shaft: ", example(), 2, 0);
+    lift(b"lift 0>1, to one of depth 1: ", with_depth(1, 1), 0, 1);
+    lift(
+        b"lift 0>2, to a full one of depth 1: ",
+        with_depth(2, 1),
+        0,
+        2,
+    );
+    lift(b"lift 2>0, to one of depth 3: ", with_depth(0, 3), 2, 0);
     lift(b"lift in a store of m 0: ", empty(0, 1), 0, 1);
 }
 
@@ -183,6 +213,7 @@ fn replay_cases() {
 
 fn main() {
     frame_cases();
+    depth_cases();
     slot_cases();
     content_cases();
     lift_cases();

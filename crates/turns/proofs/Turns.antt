@@ -180,7 +180,7 @@ module _ {f : Frame} {tops goal done heights slots : List ℕ} {at to : Spot} (r
 
         pub turned-is : count < length came → {heights′ slots′ out : List ℕ} {count′ : ℕ} → PutIs heights slots c (to .shaft .0) count came heights′ slots′ count′ out
             → TurnedIs f tops goal done heights slots at to count came done′ heights′ slots′ (record { owed = o; count = count′ }) out
-        turned-is h {heights′} {slots′} {out} {count′} k = go (carried-on (f .m) (f .h) (r .way .held .shaped) allowed h k)
+        turned-is h {heights′} {slots′} {out} {count′} k = go (carried-on (f .m) (f .depths) (r .way .held .shaped) allowed h k)
           where
             go : CarriedOn (storeOf f heights slots) c (to .shaft .0) count came (storeOf f heights′ slots′) count′ out
                 → TurnedIs f tops goal done heights slots at to count came done′ heights′ slots′ (record { owed = o; count = count′ }) out

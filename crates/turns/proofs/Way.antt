@@ -24,7 +24,7 @@ use Rattle.finding.specs.Finding.{Stands}
 use Rattle.turns.specs.Turning.{passedRows, OnTheWay}
 
 pub passed-length : (goal done : List ℕ) (x : ℕ) → length (passedRows goal done x) ≡ heightIn done x
-passed-length goal done x = downward-length (held 0 0 [] goal) x (heightIn done x)
+passed-length goal done x = downward-length (held 0 [] [] goal) x (heightIn done x)
 
 -- a cassette that stands on p in the stack of x shows in its row
 shows-in : (s : Store) (x v k : ℕ) (p : List ℕ) → Onto (v ∷ p) (stack s x) → length p ≡ k → slot s x (suc k) ≡ v
@@ -86,7 +86,7 @@ module _ {f : Frame} {tops goal done heights slots : List ℕ} (w : OnTheWay f t
   pub fewer-passed : (done′ : List ℕ) → length done′ ≡ 16 → ((x : ℕ) → heightIn done′ x ≤ heightIn done x) → ((x : ℕ) → Usable (f .m) x → depthIn f x ≤ f .e + heightIn done′ x)
       → OnTheWay f tops goal done′ heights slots
   fewer-passed done′ size less floor =
-      let part : (x : ℕ) → Onto (passedRows goal done′ x) (passedRows goal done x) = λ x. rows-onto (held 0 0 [] goal) x (heightIn done x) (heightIn done′ x) (less x) in
+      let part : (x : ℕ) → Onto (passedRows goal done′ x) (passedRows goal done x) = λ x. rows-onto (held 0 [] [] goal) x (heightIn done x) (heightIn done′ x) (less x) in
       record {
         held = w .held;
         goal-shaped = w .goal-shaped;

@@ -1,6 +1,6 @@
 // How deep a cassette is buried (document 02, 1/13): "the fewest lifts after which nothing stands on a named cassette". The store is lent as its two
 // arrays, so that no order costs a copy of it.
-use depths::depth_of;
+use depths::Depths;
 use lifts::Heights;
 use lifts::Slots;
 use lifts::height_at;
@@ -69,23 +69,23 @@ fn top_row(slots: &Slots, x: usize, rows: u8, number: u16) -> u8
 // The answer by what one shaft shows: from the highest row that shows the number, under which every other is deeper.
 fn in_shaft(
     m: u8,
-    h: u8,
+    depths: Depths,
     e: usize,
     heights: &Heights,
     slots: &Slots,
     x: usize,
     number: u16,
 ) -> Uncovering
-    requires { ⌜ Ready (held m h (now heights) (now slots)) e ⌝ }
+    requires { ⌜ Ready (held m depths (now heights) (now slots)) e ⌝ }
     requires { ⌜ x < m ⌝ }
-    ensures { λ r. ⌜ NearestIs x (x + 1) (held m h (now (heights .entry)) (now (slots .entry))) number r ⌝ }
+    ensures { λ r. ⌜ NearestIs x (x + 1) (held m depths (now (heights .entry)) (now (slots .entry))) number r ⌝ }
 {
     let rows = height_at(heights, x);
     let row = top_row(slots, x, rows, number);
     if row == 0 {
         return Uncovering::Absent;
     }
-    if (row as usize) < floor_rows(depth_of(h, x), e) {
+    if (row as usize) < floor_rows(depths, x, e) {
         return Uncovering::Buried;
     }
     Uncovering::After(rows - row)
@@ -120,20 +120,20 @@ fn nearer(a: Uncovering, b: Uncovering) -> Uncovering
 // The fewest lifts that uncover a cassette, by its number: the nearest answer of all shafts.
 pub fn fewest_lifts<'a>(
     m: u8,
-    h: u8,
+    depths: Depths,
     e: usize,
     heights: &'a Heights,
     slots: &'a Slots,
     number: u16,
 ) -> Uncovering
-    requires { ⌜ Ready (held m h (now heights) (now slots)) e ⌝ }
-    ensures { λ r. ⌜ UncoveringIs (held m h (now (heights .entry)) (now (slots .entry))) number r ⌝ }
+    requires { ⌜ Ready (held m depths (now heights) (now slots)) e ⌝ }
+    ensures { λ r. ⌜ UncoveringIs (held m depths (now (heights .entry)) (now (slots .entry))) number r ⌝ }
 {
     let shafts = m as usize;
     let mut best = Uncovering::Absent;
     let mut x: usize = 0;
     while x < shafts {
-        best = nearer(best, in_shaft(m, h, e, heights, slots, x, number));
+        best = nearer(best, in_shaft(m, depths, e, heights, slots, x, number));
         x += 1;
     }
     best

@@ -1,7 +1,8 @@
-// Writing an image (document 01, "Which comes first"): the store's faults, then 10, and then the fields one after the other.
+// Writing an image (document 01, "Which comes first"; document 02, 7/13): the store's faults, then 10, and then the fields one after the other.
+use forms::form_of;
+use forms::length_in;
 use image::WriteAnswer;
 use image::Written;
-use image_parts::count_bits;
 use image_parts::write_head;
 use image_parts::write_shafts;
 use pens::pad;
@@ -25,15 +26,15 @@ pub fn write(s: Store, out: &mut [u8]) -> Written
     if let Verdict::Refused(f) = verdict {
         return refused(WriteAnswer::StoreRefused(f), out);
     }
-    let heights = s.heights;
-    let slots = s.slots;
-    let shafts = s.m as usize;
-    let bits = 12 + count_bits(&heights, shafts);
-    if out.len() < (bits + 7) / 8 {
+    let form = form_of(s);
+    if out.len() < length_in(form, s) {
         return refused(WriteAnswer::NoRoom, out);
     }
-    let head = write_head(s, out);
-    let all = write_shafts(&heights, &slots, out, head, shafts);
+    let depths = s.depths;
+    let heights = s.heights;
+    let slots = s.slots;
+    let head = write_head(form, s, out);
+    let all = write_shafts(form, depths, &heights, &slots, out, head, s.m as usize);
     let end = pad(all, out);
     Written {
         count: end.at,

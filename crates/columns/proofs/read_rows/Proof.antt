@@ -18,7 +18,7 @@ loop-holds : tie.Need-loop-holds Inv-loop μ-loop
 loop-holds c = let a = c .before .args in (omega arith, no-rows (a .image .now) cassetteWidth (a .x) (a .slots .now) (a .marks .now) (a .start))
 
 next-field-requires : tie.Need-next-field-requires Inv-loop μ-loop
-next-field-requires c κs = let k = c .before .before .before .loop in (omega arith, omega arith, omega (arith, c .before .before .loop-test .taken, c .before .before .before .before .before .pre .1, c .before .before .before .before .before .pre .2, k .inv .1 .reads 0 0 (k .slots) .within))
+next-field-requires c κs = let k = c .before .before .before .loop in (omega arith, omega arith, omega (arith, c .before .before .loop-test .taken, c .before .before .before .before .before .pre .1, c .before .before .before .before .before .pre .2, k .inv .1 .reads 0 (k .slots) (k .slots) .within))
 
 take-cassette-requires : tie.Need-take-cassette-requires Inv-loop μ-loop
 take-cassette-requires c κs = (c .before .before .before .before .before .before .pre .0, omega (arith, c .before .before .before .loop-test .taken, c .before .before .before .before .before .before .pre .1), c .next-field .ensures .small)

@@ -14,7 +14,7 @@ use Rattle.depths.proofs.list_space.Tie as tie
 four : (c : tie.After-deepest-of) → 4 * c .deepest-of .result ≤ 64
 four c =
     let a = c .before .args in
-    omega (arith, c .deepest-of .ensures, greatest-le (a .m) (depthBy (a .h)) mostRows (c .before .pre .0 .1))
+    omega (arith, c .deepest-of .ensures, greatest-le (a .m) (depthBy (a .depths)) mostRows (c .before .pre .0))
 
 mul-result-2 : tie.Need-mul-result-2
 mul-result-2 c = omega (arith, mul-le-mul (four c) (c .before .pre .1))

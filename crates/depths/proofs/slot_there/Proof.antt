@@ -9,27 +9,27 @@ use Rattle.depths.proofs.slot_there.Tie as tie
 returns : tie.Need-returns
 returns c =
     let a = c .before .before .args in
-    sym (slot-past (a .m) (a .h) (a .x .0) (a .y .0) (omega arith))
+    sym (slot-past (a .m) (a .depths) (a .x .0) (a .y .0) (omega arith))
 
 returns-2 : tie.Need-returns-2
 returns-2 c =
     let a = c .before .before .before .before .args in
-    sym (slot-beyond (a .m) (a .h) (a .x .0) (a .y .0) (omega arith) (omega arith))
+    sym (slot-beyond (a .m) (a .depths) (a .x .0) (a .y .0) (omega arith) (omega arith))
 
 returns-3 : tie.Need-returns-3
 returns-3 c =
     let a = c .before .before .before .before .before .before .args in
-    sym (slot-none (a .m) (a .h) (a .x .0) (a .y .0) (omega arith) (omega arith) (omega arith))
+    sym (slot-none (a .m) (a .depths) (a .x .0) (a .y .0) (omega arith) (omega arith) (omega arith))
 
 returns-4 : tie.Need-returns-4
 returns-4 c =
     let a = c .before .before .before .before .before .before .before .before .before .before .args in
-    sym (slot-above (a .m) (a .h) (a .x .0) (a .y .0) (omega arith) (omega arith) (omega arith) (omega (arith, c .if4 .taken, c .before .before .depth-of .ensures)))
+    sym (slot-above (a .m) (a .depths) (a .x .0) (a .y .0) (omega arith) (omega arith) (omega arith) (omega (arith, c .if4 .taken, c .before .before .depth-of .ensures)))
 
 returns-5 : tie.Need-returns-5
 returns-5 c =
     let a = c .before .before .before .before .before .before .before .before .before .before .before .args in
-    sym (slot-there (a .m) (a .h) (a .x .0) (a .y .0) (omega arith) (omega arith) (omega arith) (omega (arith, c .before .if4 .left, c .before .before .before .depth-of .ensures)))
+    sym (slot-there (a .m) (a .depths) (a .x .0) (a .y .0) (omega arith) (omega arith) (omega arith) (omega (arith, c .before .if4 .left, c .before .before .before .depth-of .ensures)))
 
 pub slot-there-spec : {M : Type 1} → statement M
 slot-there-spec =

@@ -8,11 +8,11 @@ use Rattle.empties.proofs.empty_slots.Tie as tie
 
 returns : tie.Need-returns
 unfolding emptyCount
-returns c = omega (arith, heights-counted (c .before .before .before .before .args .s))
+returns c = omega (arith, heights-counted (c .before .before .before .before .before .args .s))
 
 returns-2 : tie.Need-returns-2
 unfolding emptyCount
-returns-2 c = omega (arith, heights-counted (c .before .before .before .before .args .s))
+returns-2 c = omega (arith, heights-counted (c .before .before .before .before .before .args .s))
 
 pub empty-slots-spec : {M : Type 1} → statement M
 empty-slots-spec = tie.close (tie.spec (λ c κs. search needs) (λ c κs. search needs) (λ c. search needs) returns returns-2)

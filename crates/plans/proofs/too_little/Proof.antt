@@ -6,12 +6,13 @@ use Rattle.plans.proofs.too_little.Tie as tie
 
 list-space-requires : tie.Need-list-space-requires
 list-space-requires c κs =
-    let f = accepted-bounds _ (c .pre .0) in
-    ((f .0, f .1), omega (arith, c .pre .1, f .2))
+    let p = c .before .pre in
+    let f = accepted-bounds _ (p .0) in
+    (f .0, omega (arith, p .1, f .1))
 
 returns : tie.Need-returns
 returns c =
-    let e = space-counted (c .before .args .start) _ _ (c .list-space .ensures) (omega (arith, c .before .pre .1)) in
+    let e = space-counted (c .before .before .args .start) _ _ (c .list-space .ensures) (omega (arith, c .before .before .pre .1)) in
     below-decides _ _ _ (omega (arith, e))
 
 pub too-little-spec : {M : Type 1} → statement M

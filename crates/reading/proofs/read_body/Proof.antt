@@ -5,7 +5,10 @@ use Rattle.reading.proofs.read_body.Statement.{statement}
 use Rattle.reading.proofs.read_body.Tie as tie
 
 returns : tie.Need-returns
-returns c = let a = c .before .before .before .before .before .before .before .args in body-ends (a .image .now) (a .m) (a .h) (c .before .before .before .before .before .none .ensures) (c .before .read-shafts .ensures) (c .finished .ensures)
+returns c =
+    let k = c .before .before .before .before .before .before in
+    let a = k .before .before .args in
+    body-ends (a .image .now) (a .head) (k .none .ensures) (c .before .read-shafts .ensures) (c .finished .ensures)
 
 pub read-body-spec : {M : Type 1} → statement M
 read-body-spec =

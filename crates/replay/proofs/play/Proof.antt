@@ -12,11 +12,11 @@ use Rattle.replay.proofs.play.Statement.{statement}
 use Rattle.replay.proofs.play.Tie as tie
 
 abbrev Inv-loop : tie.InvT-loop
-Inv-loop m h heights₀ slots₀ carries₀ list count₀ heights slots carries count =
-    (length carries ≡ length carries₀) × Goes (held m h heights₀ slots₀) list (held m h heights slots) carries count
+Inv-loop m depths heights₀ slots₀ carries₀ list count₀ heights slots carries count =
+    (length carries ≡ length carries₀) × Goes (held m depths heights₀ slots₀) list (held m depths heights slots) carries count
 
 abbrev μ-loop : tie.MeasureT-loop
-μ-loop m h heights₀ slots₀ carries₀ list count₀ heights slots carries count = length list - count
+μ-loop m depths heights₀ slots₀ carries₀ list count₀ heights slots carries count = length list - count
 
 loop-holds : tie.Need-loop-holds Inv-loop μ-loop
 loop-holds c = let p = c .before .before .pre in (refl, goes-start _ _ _ (p .0) (p .1))

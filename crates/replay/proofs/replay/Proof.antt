@@ -20,12 +20,12 @@ accepted : (c : tie.After-enum-told) → Accepted (c .before .before .before .be
 accepted c = accepted-none _ _ _ (c .before .before .check .ensures) (c .enum-told .given .1) .0
 
 play-requires : tie.Need-play-requires
-play-requires c κs = (accepted (c .before .before .before .before .before), c .before .before .before .before .before .before .before .before .no-carries .ensures)
+play-requires c κs = (accepted (c .before .before .before .before .before .before), c .before .before .before .before .before .before .before .before .before .no-carries .ensures)
 
 returns-2 : tie.Need-returns-2
 returns-2 c =
     let e : length (c .before .play .last .1 .1 .1 .1 .0) ≡ slotCount = search needs in
-    replay-played (c .before .before .before .before .before .before .before .before .before .before .before .before .args .s) _ (c .before .before .before .before .before .before .before .before .before .before .before .before .args .list .now) _ (c .before .play .result) (accepted (c .before .before .before .before .before .before .before)) e (c .before .play .ensures)
+    replay-played (c .before .before .before .before .before .before .before .before .before .before .before .before .before .args .s) _ (c .before .before .before .before .before .before .before .before .before .before .before .before .before .args .list .now) _ (c .before .play .result) (accepted (c .before .before .before .before .before .before .before .before)) e (c .before .play .ensures)
 
 pub replay-spec : {M : Type 1} → statement M
 replay-spec =

@@ -18,13 +18,13 @@ returns c =
 
 same-floors-requires : tie.Need-same-floors-requires
 same-floors-requires c κs =
-    let p = accepted-shaped _ (c .before .before .before .before .before .before .before .pre .0 .start) in
+    let p = accepted-shaped _ (c .before .before .before .before .before .before .before .before .pre .0 .start) in
     (p .shafts, p .rows)
 
 returns-2 : tie.Need-returns-2
 returns-2 c =
-    let p = c .before .before .before .before .before .before .before .before .pre in
-    let e = more-rule _ _ (p .0) _ (c .before .before .before .before .before .empty-slots .ensures) (c .before .before .before .before .before .before .if1 .left) in
+    let p = c .before .before .before .before .before .before .before .before .before .pre in
+    let e = more-rule _ _ (p .0) _ (c .before .before .before .before .before .before .empty-slots .ensures) (c .before .before .before .before .before .before .before .if1 .left) in
     decides-as (e .0) (e .1) (c .same-floors .ensures)
 
 pub rule-holds-spec : {M : Type 1} → statement M

@@ -12,10 +12,10 @@ use Rattle.uncovering.proofs.fewest_lifts.Statement.{statement}
 use Rattle.uncovering.proofs.fewest_lifts.Tie as tie
 
 abbrev Inv-loop : tie.InvT-loop
-Inv-loop m h e heights slots number shafts best₀ x₀ best x = (shafts ≡ m) × (x ≤ m) × NearestIs 0 x (held m h heights slots) number best
+Inv-loop m depths e heights slots number shafts best₀ x₀ best x = (shafts ≡ m) × (x ≤ m) × NearestIs 0 x (held m depths heights slots) number best
 
 abbrev μ-loop : tie.MeasureT-loop
-μ-loop m h e heights slots number shafts best₀ x₀ best x = shafts - x
+μ-loop m depths e heights slots number shafts best₀ x₀ best x = shafts - x
 
 loop-holds : tie.Need-loop-holds Inv-loop μ-loop
 loop-holds c = (refl, omega arith, λ w. omega (arith, w .to))
@@ -30,7 +30,7 @@ loop-again c =
       refl,
       omega (arith, c .before .before .loop-test .taken),
       rw (c .nearer .ensures)
-          (nearer-of-both (held (a .m) (a .h) (a .heights .now) (a .slots .now)) (a .number) 0 (l .loop .x) (l .loop .x + 1) (omega arith) (omega arith) (l .loop .best) (c .before .in-shaft .result) (l .loop .inv .2) (c .before .in-shaft .ensures)),
+          (nearer-of-both (held (a .m) (a .depths) (a .heights .now) (a .slots .now)) (a .number) 0 (l .loop .x) (l .loop .x + 1) (omega arith) (omega arith) (l .loop .best) (c .before .in-shaft .result) (l .loop .inv .2) (c .before .in-shaft .ensures)),
     )
 
 returns : tie.Need-returns Inv-loop μ-loop

@@ -1,9 +1,6 @@
 -- `in_shaft` meets its contract: the highest row that shows the number decides.
 use borrow.Author.Needs.{needs}
-use mathlib.Core.Path.{_≡_, ap, _∙_}
-use Prim.Native.Nat.{ℕ, _-_}
 use native.Mathlib.Omega.{arith}
-use Rattle.depths.specs.Depths.{depthBy}
 use Rattle.store.proofs.Acceptance.{accepted-shaped}
 use Rattle.uncovering.proofs.Nearest.{no-place, too-low, nearest-top}
 use Rattle.uncovering.proofs.in_shaft.Statement.{statement}
@@ -21,21 +18,17 @@ top-row-requires c κs =
 returns : tie.Need-returns
 returns c = no-place _ _ _ _ _ (c .before .before .before .pre .1) (c .before .before .height-at .ensures) (c .before .top-row .ensures) (c .if1 .taken)
 
--- how many rows never change
-floor : (c : tie.After-floor-rows) → let a = c .before .before .before .before .before .args in c .floor-rows .result ≡ depthBy (a .h) (a .x) - a .e
-floor c = c .floor-rows .ensures ∙ ap (λ (d : ℕ). d - c .before .before .before .before .before .args .e) (c .before .depth-of .ensures)
-
 returns-2 : tie.Need-returns-2
 returns-2 c =
-    let t = c .before .before .before .before in
-    too-low _ _ _ _ _ (t .before .before .pre .1) (t .before .height-at .ensures) (t .top-row .ensures) (c .before .before .before .if1 .left) _ (t .before .before .pre .0) _ (floor (c .before)) (omega (arith, c .if2 .taken))
+    let t = c .before .before .before in
+    too-low _ _ _ _ _ (t .before .before .pre .1) (t .before .height-at .ensures) (t .top-row .ensures) (c .before .before .if1 .left) _ (t .before .before .pre .0) _ (c .before .floor-rows .ensures) (omega (arith, c .if2 .taken))
 
 returns-3 : tie.Need-returns-3
 returns-3 c =
-    let t = c .before .before .before .before in
-    nearest-top _ _ _ _ _ (t .before .before .pre .1) (t .before .height-at .ensures) (t .top-row .ensures) (c .before .before .before .if1 .left) _ (t .before .before .pre .0) _ (floor (c .before)) (omega (arith, c .if2 .left))
+    let t = c .before .before .before in
+    nearest-top _ _ _ _ _ (t .before .before .pre .1) (t .before .height-at .ensures) (t .top-row .ensures) (c .before .before .if1 .left) _ (t .before .before .pre .0) _ (c .before .floor-rows .ensures) (omega (arith, c .if2 .left))
 
 pub in-shaft-spec : {M : Type 1} → statement M
 in-shaft-spec =
     tie.close
-    (tie.spec height-at-requires top-row-requires returns (λ c. search needs) (λ c κs. search needs) (λ c κs. search needs) returns-2 (λ c. search needs) returns-3)
+    (tie.spec height-at-requires top-row-requires returns (λ c. search needs) (λ c κs. search needs) returns-2 (λ c. search needs) returns-3)

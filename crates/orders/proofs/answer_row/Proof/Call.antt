@@ -16,7 +16,7 @@ use contract.Monad.{Fun, fact}
 use types.Kit.{Given, ‵, raw, _⊛_, ⋆, _$_, _∵_, !, qed, move, use1, use2, split, join, fjoin, frame, done}
 use denote.RattleType.{RattleType, owns}
 use denote.Laws.{Is}
-use denote.Array.{Array}
+use denote.Array.{Array, array-makes}
 use denote.Plain.{uint-makes}
 use denote.Builtin.{u8, usize}
 use denote.Ref.{RefT, ShrRef, now, ptr-vals, shr-copy}
@@ -31,6 +31,7 @@ use Rattle.store.specs.Slots.{held}
 use Rattle.uncovering.specs.Promises.{Ready}
 use Rattle.orders.specs.Orders.{OrderIs}
 use Rattle.orders.specs.declared.Order.{Order}
+use Rattle.orders.proofs.Fields.{bytesVal}
 use Rattle.orders.proofs.Order as S
 use Rattle.orders.proofs.Order.Laws as S′
 use Rattle.orders.proofs.answered as answered
@@ -51,11 +52,11 @@ pub typed : {M : Type 1} (𝓤 : URA M) (H : Heap 𝓤) (A : Atoms 𝓤) → Giv
 typed 𝓤 H A W y v is = LL.lawful S.the-type S′.the-laws 𝓤 H A W .typed y (v ∷ []) is .0
 
 -- what the callee is passed, with the order y
-abbrev pub passed : (κ : Lft) (m h e : ℕ) (hs ss : RefT (List ℕ)) → Order → Args answered.signature (κ, tt)
-passed κ m h e hs ss y = (m, (h, (e, (hs, (ss, (y, tt))))))
+abbrev pub passed : (κ : Lft) (m : ℕ) (ds : List ℕ) (e : ℕ) (hs ss : RefT (List ℕ)) → Order → Args answered.signature (κ, tt)
+passed κ m ds e hs ss y = (m, (ds, (e, (hs, (ss, (y, tt))))))
 
-abbrev passed-vals : (κ : Lft) (m h e : ℕ) (hs ss : RefT (List ℕ)) → Order → Vals answered.signature (κ, tt)
-passed-vals κ m h e hs ss y = (vint w8 m ∷ [], (vint w8 h ∷ [], (vint w64 e ∷ [], (ptr-vals hs, (ptr-vals ss, (S′.lowered y ∷ [], tt))))))
+abbrev passed-vals : (κ : Lft) (m : ℕ) (ds : List ℕ) (e : ℕ) (hs ss : RefT (List ℕ)) → Order → Vals answered.signature (κ, tt)
+passed-vals κ m ds e hs ss y = (vint w8 m ∷ [], (bytesVal ds ∷ [], (vint w64 e ∷ [], (ptr-vals hs, (ptr-vals ss, (S′.lowered y ∷ [], tt))))))
 
 module _ {M : Type 1} (𝓤 : URA M) (H : Heap 𝓤) (A : Atoms 𝓤) (at-mem : Memory → SProp 𝓤) (run : Routine → Fun 𝓤) where
   -- the contract that the proof cites
@@ -63,16 +64,16 @@ module _ {M : Type 1} (𝓤 : URA M) (H : Heap 𝓤) (A : Atoms 𝓤) (at-mem : 
   Answered = tripleOf 𝓤 H A answered.signature (answered.spec 𝓤 H A at-mem run)
 
   -- what its triple binds outside
-  abbrev pub bound-by : Lft → Share → (m h e : ℕ) (hs ss : RefT (List ℕ)) → Order → Answered .Ghost
-  bound-by κ q m h e hs ss y = (((κ, tt), (q, tt), tt, passed κ m h e hs ss y, passed-vals κ m h e hs ss y), tt)
+  abbrev pub bound-by : Lft → Share → (m : ℕ) (ds : List ℕ) (e : ℕ) (hs ss : RefT (List ℕ)) → Order → Answered .Ghost
+  bound-by κ q m ds e hs ss y = (((κ, tt), (q, tt), tt, passed κ m ds e hs ss y, passed-vals κ m ds e hs ss y), tt)
 
   -- of its `ensured`, the clause alone: it has no `&mut`, so what is said of last values is dropped
-  pub said : (κ : Lft) (m h e : ℕ) (hs ss : RefT (List ℕ)) (y r : Order)
-      → ent 𝓤 (ensured 𝓤 H A answered.ended (answered.clauses 𝓤 H A at-mem run) (κ, tt) (passed κ m h e hs ss y) tt r) (fact 𝓤 (OrderIs (held m h (now hs) (now ss)) y r))
-  said κ m h e hs ss y r = exE 𝓤 _ (λ ws. snd∗ 𝓤 (sem 𝓤 H A (lasts answered.ended (κ, tt) (passed κ m h e hs ss y) ws)) (fact 𝓤 (OrderIs (held m h (now hs) (now ss)) y r)))
+  pub said : (κ : Lft) (m : ℕ) (ds : List ℕ) (e : ℕ) (hs ss : RefT (List ℕ)) (y r : Order)
+      → ent 𝓤 (ensured 𝓤 H A answered.ended (answered.clauses 𝓤 H A at-mem run) (κ, tt) (passed κ m ds e hs ss y) tt r) (fact 𝓤 (OrderIs (held m ds (now hs) (now ss)) y r))
+  said κ m ds e hs ss y r = exE 𝓤 _ (λ ws. snd∗ 𝓤 (sem 𝓤 H A (lasts answered.ended (κ, tt) (passed κ m ds e hs ss y) ws)) (fact 𝓤 (OrderIs (held m ds (now hs) (now ss)) y r)))
 
-module _ {M : Type 1} (𝓤 : URA M) (H : Heap 𝓤) (A : Atoms 𝓤) (W : Given 𝓤 H A) (at-mem : Memory → SProp 𝓤) (run : Routine → Fun 𝓤) (κ : Lft) (q : Share) (m h e : ℕ) (hs ss : RefT (List ℕ))
-    (m-fits : m < 2 ^ 8) (h-fits : h < 2 ^ 8) (e-fits : e < 2 ^ 64) (ready : Ready (held m h (now hs) (now ss)) e) (y : Order) where
+module _ {M : Type 1} (𝓤 : URA M) (H : Heap 𝓤) (A : Atoms 𝓤) (W : Given 𝓤 H A) (at-mem : Memory → SProp 𝓤) (run : Routine → Fun 𝓤) (κ : Lft) (q : Share) (m : ℕ) (ds : List ℕ) (e : ℕ) (hs ss : RefT (List ℕ))
+    (m-fits : m < 2 ^ 8) (ds-are : Is (Array u8 16) ds (bytesVal ds ∷ [])) (e-fits : e < 2 ^ 64) (ready : Ready (held m ds (now hs) (now ss)) e) (y : Order) where
   abbrev Heights : Fml
   Heights = HeightsOwn κ hs
 
@@ -80,10 +81,10 @@ module _ {M : Type 1} (𝓤 : URA M) (H : Heap 𝓤) (A : Atoms 𝓤) (W : Given
   Slots = SlotsOwn κ ss
 
   abbrev to : Answered 𝓤 H A at-mem run .Ghost
-  to = bound-by 𝓤 H A at-mem run κ q m h e hs ss y
+  to = bound-by 𝓤 H A at-mem run κ q m ds e hs ss y
 
-  asked : ent 𝓤 (onEntry 𝓤 H A answered.signature (κ, tt) (q, tt) (passed κ m h e hs ss y) (passed-vals κ m h e hs ss y)) (Answered 𝓤 H A at-mem run .pre to)
-  asked = qed W ((‵ (flft κ q) ⊛ ‵ ftrue) ∷ ‵ (owns (u8 ∷ u8 ∷ usize ∷ ShrRef (named 0) κ (Array u8 16) ∷ ShrRef (named 0) κ (Array u8 256) ∷ R ∷ []) (passed κ m h e hs ss y) (passed-vals κ m h e hs ss y)) ∷ []) ∵ says ! ready $ frame ! $ done !
+  asked : ent 𝓤 (onEntry 𝓤 H A answered.signature (κ, tt) (q, tt) (passed κ m ds e hs ss y) (passed-vals κ m ds e hs ss y)) (Answered 𝓤 H A at-mem run .pre to)
+  asked = qed W ((‵ (flft κ q) ⊛ ‵ ftrue) ∷ ‵ (owns (u8 ∷ Array u8 16 ∷ usize ∷ ShrRef (named 0) κ (Array u8 16) ∷ ShrRef (named 0) κ (Array u8 256) ∷ R ∷ []) (passed κ m ds e hs ss y) (passed-vals κ m ds e hs ss y)) ∷ []) ∵ says ! ready $ frame ! $ done !
 
   -- what the order owns, the token and copies of heights and slots give what the callee asks, and heights and slots are kept
   pub apart : ent 𝓤 (⋆ 𝓤 H A (‵ (R .own y (S′.lowered y ∷ [])) ∷ ‵ (flft κ q) ∷ ‵ Heights ∷ ‵ Slots ∷ [])) (sep 𝓤 (Answered 𝓤 H A at-mem run .pre to) (sep 𝓤 (sem 𝓤 H A Heights) (sem 𝓤 H A Slots)))
@@ -93,7 +94,7 @@ module _ {M : Type 1} (𝓤 : URA M) (H : Heap 𝓤) (A : Atoms 𝓤) (W : Given
       move ! (4 ∷ []) $ use1 W (‵ Slots ⊛ ‵ Slots) (shr-copy 𝓤 H A W (named 0) κ (Array u8 256) .twice ss (ptr-vals ss)) $ split ! $
       -- [slots; slots; heights; heights; the order; the token]
       nothing ! $ move ! (5 ∷ 0 ∷ []) $ fjoin ! $ move ! (1 ∷ 0 ∷ []) $ fjoin ! $ move ! (2 ∷ 0 ∷ []) $ fjoin ! $
-      owned ! usize (Is usize) (uint-makes 𝓤 H A W w64) e _ (refl, e-fits) $ fjoin ! $ owned ! u8 (Is u8) (uint-makes 𝓤 H A W w8) h _ (refl, h-fits) $ fjoin ! $
+      owned ! usize (Is usize) (uint-makes 𝓤 H A W w64) e _ (refl, e-fits) $ fjoin ! $ owned ! (Array u8 16) (Is (Array u8 16)) (array-makes 𝓤 H A W u8 (uint-makes 𝓤 H A W w8) 16) ds _ ds-are $ fjoin ! $
       owned ! u8 (Is u8) (uint-makes 𝓤 H A W w8) m _ (refl, m-fits) $ fjoin ! $
       -- [what is passed; slots; heights; the token]
       nothing ! $ move ! (4 ∷ 0 ∷ []) $ join ! $ use2 W (raw (Answered 𝓤 H A at-mem run .pre to)) asked $ frame ! $ move ! (1 ∷ 0 ∷ []) $ done !

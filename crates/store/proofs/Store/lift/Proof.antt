@@ -14,14 +14,14 @@ returns c =
 
 try-lift-requires : tie.Need-try-lift-requires
 try-lift-requires c κs =
-    let w = c .before .before .before .before .before .before in
-    accepted-shaped (w .before .args .self) (accepted-none _ _ _ (w .check .ensures) (c .before .before .before .before .enum-told .given .1) .0)
+    let w = c .before .before .before .before .before .before .before in
+    accepted-shaped (w .before .args .self) (accepted-none _ _ _ (w .check .ensures) (c .before .before .before .before .before .enum-told .given .1) .0)
 
 returns-2 : tie.Need-returns-2
 returns-2 c =
     let t = c .before .before in
-    let w = t .before .before .before .before .before .before .before in
-    lift-tried (w .before .args .self) _ _ _ (t .try-lift .result) (c .answer-of .result) (accepted-none _ _ _ (w .check .ensures) (t .before .before .before .before .before .enum-told .given .1) .0) (t .try-lift .ensures) (c .answer-of .ensures)
+    let w = t .before .before .before .before .before .before .before .before in
+    lift-tried (w .before .args .self) _ _ _ (t .try-lift .result) (c .answer-of .result) (accepted-none _ _ _ (w .check .ensures) (t .before .before .before .before .before .before .enum-told .given .1) .0) (t .try-lift .ensures) (c .answer-of .ensures)
 
 pub lift-spec : {M : Type 1} → statement M
 lift-spec =

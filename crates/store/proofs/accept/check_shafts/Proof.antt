@@ -18,10 +18,10 @@ use Rattle.store.proofs.accept.check_shafts.Statement.{statement}
 use Rattle.store.proofs.accept.check_shafts.Tie as tie
 
 abbrev Inv-loop : tie.InvT-loop
-Inv-loop m h heights slots marks₀ shafts x₀ marks x = (shafts ≡ m) × (x ≤ shafts) × ShaftsSoFar (held m h heights slots) x marks
+Inv-loop m depths heights slots marks₀ shafts x₀ marks x = (shafts ≡ m) × (x ≤ shafts) × ShaftsSoFar (held m depths heights slots) x marks
 
 abbrev μ-loop : tie.MeasureT-loop
-μ-loop m h heights slots marks₀ shafts x₀ marks x = shafts - x
+μ-loop m depths heights slots marks₀ shafts x₀ marks x = shafts - x
 
 loop-holds : tie.Need-loop-holds Inv-loop μ-loop
 loop-holds c = (refl, omega arith, no-shafts _ (c .pre .1))
@@ -37,13 +37,13 @@ take-rows-requires c κs =
 
 -- after the rows of a shaft that is not too high were taken
 module _ (a : tie.After-take-rows Inv-loop μ-loop) where
-  fits : heightIn (a .before .before .before .before .before .before .before .args .heights .now) (a .before .before .before .before .before .before .loop .x) ≤ depthBy (a .before .before .before .before .before .before .before .args .h) (a .before .before .before .before .before .before .loop .x)
+  fits : heightIn (a .before .before .before .before .before .before .before .args .heights .now) (a .before .before .before .before .before .before .loop .x) ≤ depthBy (a .before .before .before .before .before .before .before .args .depths) (a .before .before .before .before .before .before .loop .x)
   fits = omega (arith, a .before .before .if1 .left, a .before .before .before .depth-of .ensures, a .before .before .before .before .height-at .ensures)
 
   rows-are : RowsAre (a .before .before .before .before .before .before .loop .marks) (a .before .before .before .before .before .before .before .args .slots .now) (a .before .before .before .before .before .before .loop .x) (heightIn (a .before .before .before .before .before .before .before .args .heights .now) (a .before .before .before .before .before .before .loop .x)) (a .take-rows .last .1 .1 .1 .0) (a .take-rows .result)
   rows-are = rw (← (a .before .before .before .before .height-at .ensures)) (a .take-rows .ensures)
 
-  refused : (f : Fault) → takenNumber (a .take-rows .result) ≡ faultNumber f → ShaftsAre (held (a .before .before .before .before .before .before .before .args .m) (a .before .before .before .before .before .before .before .args .h) (a .before .before .before .before .before .before .before .args .heights .now) (a .before .before .before .before .before .before .before .args .slots .now)) (a .take-rows .last .1 .1 .1 .0) (Verdict.Refused f)
+  refused : (f : Fault) → takenNumber (a .take-rows .result) ≡ faultNumber f → ShaftsAre (held (a .before .before .before .before .before .before .before .args .m) (a .before .before .before .before .before .before .before .args .depths) (a .before .before .before .before .before .before .before .args .heights .now) (a .before .before .before .before .before .before .before .args .slots .now)) (a .take-rows .last .1 .1 .1 .0) (Verdict.Refused f)
   refused f e = shaft-refused (a .before .before .before .before .before .before .loop .inv .2) f (a .before .before .before .before .before .loop-test .taken) fits rows-are e
 
 returns-2 : tie.Need-returns-2 Inv-loop μ-loop
@@ -65,7 +65,7 @@ returns-4 : tie.Need-returns-4 Inv-loop μ-loop
 returns-4 c =
     let a = c .before .before .args in
     let k : c .before .loop .x ≡ a .m = omega (arith, c .loop-test .left, c .before .loop .inv .1) in
-    shafts-taken (subst (λ (n : ℕ). ShaftsSoFar (held (a .m) (a .h) (a .heights .now) (a .slots .now)) n (c .before .loop .marks)) k (c .before .loop .inv .2))
+    shafts-taken (subst (λ (n : ℕ). ShaftsSoFar (held (a .m) (a .depths) (a .heights .now) (a .slots .now)) n (c .before .loop .marks)) k (c .before .loop .inv .2))
 
 pub check-shafts-spec : {M : Type 1} → statement M
 check-shafts-spec =
