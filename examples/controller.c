@@ -1,8 +1,8 @@
 /*
  * How a controller uses Halyardgage: check two images, ask whether the goal
  * can be reached, plan the lifts, and replay them. Then how deep some cassettes
- * are buried, a store with blanks, and some of the ways in which a call is
- * refused.
+ * are buried, a store with blanks, shafts of unequal depth, and some of the ways
+ * in which a call is refused.
  *
  *     cc -Iinclude examples/controller.c -Ltarget/staticlib -lhalyardgage
  */
@@ -42,17 +42,23 @@ static unsigned get(const struct image *image, size_t *at, unsigned width)
     return value;
 }
 
-/* The image of a store. Cassettes are given shaft by shaft from row 1, with 0
- * at the end of each shaft. */
-static struct image pack(unsigned m, unsigned h, const uint8_t *cassettes)
+/* The image of a store in form 0 or 1; in form 0 one depth is given. Cassettes
+ * are given shaft by shaft from row 1, with 0 at the end of each shaft. */
+static struct image pack(unsigned form, unsigned m, const uint8_t *depths,
+                         const uint8_t *cassettes)
 {
     struct image image;
     size_t at = 0;
     image.len = 0;
-    put(&image, &at, 4, 0);
+    put(&image, &at, 4, form);
     put(&image, &at, 4, m - 1);
-    put(&image, &at, 4, h - 1);
+    if (form == 0) {
+        put(&image, &at, 4, *depths - 1u);
+    }
     while (m-- > 0) {
+        if (form != 0) {
+            put(&image, &at, 4, *depths++ - 1u);
+        }
         put(&image, &at, 5, (unsigned)strlen((const char *)cassettes));
         while (*cassettes != 0) {
             put(&image, &at, 8, *cassettes++);
@@ -62,15 +68,25 @@ static struct image pack(unsigned m, unsigned h, const uint8_t *cassettes)
     return image;
 }
 
-/* Prints a store, as [1 2] [] [3], bottom first. The image has been checked. */
-static void print_store(const char *name, const struct image *image)
+/* The image of m shafts that are all h deep. */
+static struct image pack_even(unsigned m, uint8_t h, const uint8_t *cassettes)
 {
-    size_t at = 4;
+    return pack(0, m, &h, cassettes);
+}
+
+/* Prints a store, as [1 2] [] [3], bottom first, and gives how many bytes its
+ * image has. The image has been checked. */
+static size_t print_store(const char *name, const struct image *image)
+{
+    size_t at = 0;
+    unsigned form = get(image, &at, 4);
     unsigned m = get(image, &at, 4) + 1;
     printf("%-10s", name);
-    at += 4;
+    at += form == 0 ? 4 : 0;
     while (m-- > 0) {
-        unsigned height = get(image, &at, 5);
+        unsigned height;
+        at += form == 0 ? 0 : 4;
+        height = get(image, &at, 5);
         printf(" [");
         while (height-- > 0) {
             printf("%u%s", get(image, &at, 8), height > 0 ? " " : "");
@@ -78,13 +94,14 @@ static void print_store(const char *name, const struct image *image)
         printf("]");
     }
     printf("\n");
+    return (at + 7) / 8;
 }
 
 /* What a refusal means. */
 static const char *meaning(int number)
 {
     switch (number) {
-    case HALYARD_FORM: return "the form is not 0";
+    case HALYARD_FORM: return "the form is above 1";
     case HALYARD_IMAGE_ENDS: return "the image ends too early";
     case HALYARD_HEIGHT: return "a shaft is higher than its depth";
     case HALYARD_CASSETTE_ZERO: return "a cassette has number 0";
@@ -141,11 +158,10 @@ static struct image replayed(const struct image *start, const uint8_t *list,
     struct image end;
     uint64_t answer = halyard_replay(start->bytes, start->len, list, list_len,
                                      end.bytes, sizeof end.bytes);
-    end.len = start->len;
     if (!good("replay", answer, "every lift done")) {
         printf("  lifts done before that: %" PRIu64 "\n", halyard_count(answer));
     }
-    print_store("reached", &end);
+    end.len = print_store("reached", &end);
     return end;
 }
 
@@ -180,7 +196,8 @@ static int planned(const struct image *start, const struct image *goal,
         print_lifts(list, halyard_count(answer));
     }
     end = replayed(start, list, (size_t)halyard_count(answer));
-    return memcmp(end.bytes, goal->bytes, goal->len) == 0;
+    return end.len == goal->len &&
+           memcmp(end.bytes, goal->bytes, goal->len) == 0;
 }
 
 /* Asks how deep some cassettes of a store are buried, and prints the answers.
@@ -213,12 +230,38 @@ static int blanks(void)
     enum { BLANK = HALYARD_BLANK };
     static const uint8_t cassettes[] = {1, BLANK, 2, 0, BLANK, BLANK, 3, 4, 0, 0};
     static const uint8_t wanted[] = {BLANK, 2, 4, 1, 0, 3, BLANK, BLANK, 0, 0};
-    struct image start = pack(3, 4, cassettes);
-    struct image goal = pack(3, 4, wanted);
+    struct image start = pack_even(3, 4, cassettes);
+    struct image goal = pack_even(3, 4, wanted);
     struct halyard_order orders[] = {{BLANK, 0, 0}};
 
     printf("\nBlanks, number %d, which nobody tells apart\n", BLANK);
     return planned(&start, &goal, 0) & asked(&start, orders, 1);
+}
+
+/* Shafts of unequal depth: a plan. Then a store of equal depths in form 1, which
+ * a replay writes in form 0. Gives whether all was good. */
+static int depths(void)
+{
+    static const uint8_t uneven[] = {3, 2, 2}, even[] = {2, 2, 2};
+    static const uint8_t cassettes[] = {1, 2, 3, 0, 4, 0, 5, 0};
+    static const uint8_t wanted[] = {1, 3, 0, 2, 4, 0, 5, 0};
+    static const uint8_t fewer[] = {1, 2, 0, 0, 3, 0};
+    struct image start = pack(1, 3, uneven, cassettes);
+    struct image goal = pack(1, 3, uneven, wanted);
+    struct image given = pack(1, 3, even, fewer), written;
+    int all_good;
+
+    printf("\nThree shafts of depths 3, 2 and 2: at most %u lifts\n",
+           (unsigned)HALYARD_LIST_SPACE(3, 5));
+    all_good = planned(&start, &goal, 0);
+
+    printf("\nThree shafts of depth 2 in form 1, which needs %u bytes\n",
+           (unsigned)HALYARD_IMAGE_LENGTH(1, 3, 3));
+    written = replayed(&given, NULL, 0);
+    printf("  given in %u bytes, written in %u\n", (unsigned)given.len,
+           (unsigned)written.len);
+    return all_good && given.len == HALYARD_IMAGE_LENGTH(1, 3, 3) &&
+           written.len == HALYARD_IMAGE_LENGTH(0, 3, 3);
 }
 
 /* Plans with nothing lent. */
@@ -235,7 +278,7 @@ static void refusals(const struct image *start, const struct image *goal)
 {
     static const uint8_t other_order[] = {2, 0, 5, 4, 3, 1, 0};
     static const uint8_t list[] = {0x01, 0x10, 0x11};
-    struct image image = pack(2, 4, other_order);
+    struct image image = pack_even(2, 4, other_order);
 
     printf("\nA goal out of reach, with nothing lent\n");
     print_store("goal", &image);
@@ -259,12 +302,12 @@ int main(void)
     static const uint8_t two_goal[] = {1, 0, 5, 4, 3, 2, 0};
     static const uint8_t three[] = {1, 4, 5, 6, 0, 2, 7, 8, 0, 3, 9, 0};
     static const uint8_t three_goal[] = {1, 9, 0, 2, 6, 5, 4, 0, 3, 8, 7, 0};
-    struct image start = pack(2, 4, two);
-    struct image goal = pack(2, 4, two_goal);
-    struct image start3 = pack(3, 4, three);
-    struct image goal3 = pack(3, 4, three_goal);
+    struct image start = pack_even(2, 4, two);
+    struct image goal = pack_even(2, 4, two_goal);
+    struct image start3 = pack_even(3, 4, three);
+    struct image goal3 = pack_even(3, 4, three_goal);
     static const uint8_t fuller[] = {1, 4, 5, 6, 0, 2, 7, 8, 0, 3, 9, 10, 0};
-    struct image store = pack(3, 4, fuller);
+    struct image store = pack_even(3, 4, fuller);
     struct halyard_order orders[] = {
         {7, 0, 0}, {4, 0, 0}, {1, 0, 0}, {10, 0, 0}, {11, 0, 0}};
     int all_good;
@@ -281,6 +324,7 @@ int main(void)
     all_good &= asked(&store, orders, sizeof orders / sizeof orders[0]);
 
     all_good &= blanks();
+    all_good &= depths();
     refusals(&start, &goal);
     return all_good ? 0 : 1;
 }

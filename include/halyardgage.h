@@ -1,10 +1,11 @@
 /*
  * Halyardgage: plans the lifts of a sample changer.
  *
- * A store has m shafts, 1 to 16, all of depth h, 1 to 16. Shafts count from 0,
- * rows from 1 at the bottom. A cassette is a number 1 to 255. No cassette
- * stands twice but the blank. A lift takes the top cassette of one shaft and
- * sets it on top of another.
+ * A store has m shafts, 1 to 16, each with a depth of its own, 1 to 16. Shafts
+ * count from 0, rows from 1 at the bottom. A cassette is a number 1 to 255. No
+ * cassette stands twice but the blank. A lift takes the top cassette of one
+ * shaft and sets it on top of another. Where a count of bytes below goes by h,
+ * that is the depth of the deepest shaft.
  *
  * BLANKS. The number HALYARD_BLANK is an empty carrier, and may stand any
  * number of times: a store may hold as many cassettes as it has slots. Blanks
@@ -13,10 +14,21 @@
  * for the one that is uncovered soonest.
  *
  * IMAGES. The calls take stores as images. Fields are packed most significant
- * bit first, with no gaps: form (4 bits, value 0), m - 1 (4), h - 1 (4); then
- * for each shaft from 0 its height (5) and its cassettes from row 1 upward (8
- * each); then zero bits to the end of the byte. 02 11 00 81 00 20 60, in
- * hexadecimal, is m = 3, h = 2, shafts [1 2] [] [3], bottom first.
+ * bit first, with no gaps, and zero bits fill the last byte. There are two
+ * forms:
+ *   - form 0, for shafts of equal depth: form (4 bits, value 0), m - 1 (4),
+ *     depth - 1 (4); then for each shaft from 0 its height (5) and its
+ *     cassettes from row 1 upward (8 each);
+ *   - form 1, for shafts of any depths: form (4 bits, value 1), m - 1 (4); then
+ *     for each shaft from 0 its depth - 1 (4), its height (5) and its cassettes
+ *     from row 1 upward (8 each).
+ * In hexadecimal 02 11 00 81 00 20 60 is three shafts of depth 2, [1 2] [] [3],
+ * bottom first, and 12 21 80 81 01 88 41 04 20 A0 is three shafts of depths 3,
+ * 2 and 2, [1 2 3] [4] [5].
+ * Every call reads both forms, and two stores are compared by what stands
+ * where, whatever their forms. What a call writes is in form 0 exactly if all
+ * depths are equal. So an image in form 1 with equal depths stands for the same
+ * store as its form 0 image; no other two images stand for one store.
  *
  * LISTS. A list is bytes, one for each lift: the shaft left in the high four
  * bits, the shaft entered in the low four.
@@ -75,15 +87,16 @@ enum {
     HALYARD_OK = 0, /* accepted; yes; a list; run through; an order answered */
 
     /* refused because of the input */
-    HALYARD_FORM = 1,              /* the image's form is not 0 */
+    HALYARD_FORM = 1,              /* the image's form is above 1 */
     HALYARD_IMAGE_ENDS = 2,        /* the image ends before its last field */
-    HALYARD_HEIGHT = 3,            /* a height above h */
+    HALYARD_HEIGHT = 3,            /* a height above the shaft's depth */
     HALYARD_CASSETTE_ZERO = 4,     /* a cassette number 0 */
     HALYARD_CASSETTE_TWICE = 5,    /* a cassette that stood earlier, and is no
                                       blank */
     /* 6 is retired: no call returns it, and it is not used again */
     HALYARD_PADDING = 7,           /* a padding bit set, or bytes after it */
-    HALYARD_SHAPES_DIFFER = 8,     /* start and goal differ in m or h */
+    HALYARD_SHAPES_DIFFER = 8,     /* start and goal differ in m, or in the
+                                      depth of a shaft */
     HALYARD_CASSETTES_DIFFER = 9,  /* start and goal differ in how often a
                                       number stands */
     HALYARD_SPACE = 10,            /* the lent space is too small */
@@ -113,12 +126,18 @@ struct halyard_order {
 /* The cassette number of a blank. */
 #define HALYARD_BLANK 255
 
-/* The longest image, in bytes. (Proved: longest, in
+/* The bytes of an image in form 0 or 1, of m shafts with n cassettes, blanks
+ * included, and the most that an image has: 16 shafts of depth 16, full, in
+ * form 1. (Proved: length-image and longest, in
  * crates/image/proofs/Lengths.antt.) */
-#define HALYARD_IMAGE_MAX 268
+#define HALYARD_IMAGE_LENGTH(form, m, n)                              \
+    ((8 + 4 * ((form) == 0 ? (size_t)1 : (size_t)(m)) +               \
+      5 * (size_t)(m) + 8 * (size_t)(n) + 7) / 8)
+#define HALYARD_IMAGE_MAX 275
 
-/* The list space that halyard_plan() asks for, in bytes, for shafts of depth h
- * and n cassettes, blanks included, and the most that it ever asks for.
+/* The list space that halyard_plan() asks for, in bytes, where the deepest
+ * shaft has depth h and there are n cassettes, blanks included, and the most
+ * that it ever asks for.
  * (Proved: list-space-most, in crates/store/proofs/Space.antt.) */
 #define HALYARD_LIST_SPACE(h, n) \
     (4 * (size_t)(h) * (size_t)(n) + 8 * (size_t)(n))
@@ -191,12 +210,17 @@ uint64_t halyard_plan(const uint8_t *start, size_t start_len,
  * Does the lifts of a list on a store, and writes the image of the store
  * reached.
  *
- * Reads image and list. out_len must be at least image_len.
+ * Reads image and list. out_len must be at least the length of the image that
+ * is written. That is image_len, but where image is in form 1 and all its
+ * depths are equal: then the form 0 image is written, which has
+ * HALYARD_IMAGE_LENGTH(0, m, n) bytes. It is never longer than the image given,
+ * so that image_len bytes are always enough. (Proved: no-longer, in
+ * crates/image/proofs/RoundTrip.antt.)
  * Returns HALYARD_OK and list_len as the count where every lift was done. Where
  * one could not be done, returns its number, 11, 13 or 14, and the count of
- * lifts done before it; it has changed nothing. In both cases the first
- * image_len bytes of out are then the image of the store reached, and the rest
- * stay as they came.
+ * lifts done before it; it has changed nothing. In both cases the first bytes
+ * of out are then the image of the store reached, and the rest stay as they
+ * came.
  * Otherwise it writes nothing and returns, with count 0, the first fault of
  * reading, 1 to 5 or 7, or HALYARD_SPACE.
  */

@@ -1,12 +1,10 @@
 -- The round trips, carried to the two functions by their contracts: what `write` left is read by `read` as the same store, and what `read` accepted
 -- is written by `write` as the same bytes, but for a form 1 image with equal depths (document 02, 7/13).
-use mathlib.Core.Bool.{Bool}
 use mathlib.Core.List.{List, _++_}
 use mathlib.Core.Path.{_≡_, refl, sym, ap, _∙_}
 use Prim.Native.Nat.{ℕ, zero, suc, _≤_, _<_}
 use lib.ListN.{length, getD, take, drop}
 use lib.Seq.{take-at}
-use Rattle.bits.specs.Fields.{bytesOf}
 use Rattle.marks.proofs.Faulted.{first-none}
 use Rattle.store.specs.declared.Store.{Store}
 use Rattle.store.specs.Accept.{storeFault}
@@ -17,14 +15,10 @@ use Rattle.image.specs.Numbers.{readNumber, writeNumber}
 use Rattle.image.specs.Promises.{ReadIs}
 use Rattle.image.specs.Reading.{Reading, readImage}
 use Rattle.image.specs.Writing.{writeRefusal, WriteIs}
+use Rattle.image.proofs.Lengths.{length-bytes}
 use Rattle.image.proofs.Nexts.{accepted}
 use Rattle.image.proofs.Refused.{not-refused}
 use Rattle.image.proofs.RoundTrip.{written-read, read-image, Rewritten, own-bytes}
-
-pub length-bytes : (k : ℕ) (l : List Bool) → length (bytesOf k l) ≡ k
-unfolding bytesOf
-length-bytes zero l = refl
-length-bytes (suc k) l = ap suc (length-bytes k (drop 8 l))
 
 module _ (s : Store) (out next : List ℕ) (w : Written) (p : WriteIs s out next w) where
   -- the first bytes are the image

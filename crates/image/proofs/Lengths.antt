@@ -7,8 +7,8 @@ use Prim.Native.Nat.{ℕ, zero, suc, _+_, _*_, _/_, _≤_, _<_}
 use native.Mathlib.Decide.{decLt}
 use native.Mathlib.Nat.{not-suc-le-zero}
 use native.Mathlib.Omega.{arith}
-use lib.ListN.{length, length-append}
-use Rattle.bits.specs.Fields.{byteCount}
+use lib.ListN.{length, drop, length-append}
+use Rattle.bits.specs.Fields.{bytesOf, byteCount}
 use Rattle.bits.proofs.Widths.{length-bits, length-packed}
 use Rattle.stacks.specs.Count.{sum}
 use Rattle.lifts.specs.Lifting.{heightIn}
@@ -18,7 +18,7 @@ use Rattle.store.specs.Slots.{SameFrame, height, cassetteCount}
 use Rattle.store.specs.Accept.{Accepted}
 use Rattle.store.proofs.Acceptance.{accepted-shaped, accepted-most}
 use Rattle.store.proofs.Counted.{heights-counted}
-use Rattle.image.specs.Image.{frameWidth, heightWidth, cassetteWidth, ownDepths, depthFields, fieldIf, headBits, columnBits, columnsBits, shaftsBits, imageBits, lengthIn, formOf, imageLength}
+use Rattle.image.specs.Image.{frameWidth, heightWidth, cassetteWidth, lastForm, ownDepths, depthFields, fieldIf, headBits, columnBits, columnsBits, shaftsBits, imageBits, lengthIn, formOf, imageLength}
 use Rattle.image.proofs.Forms.{form-frame}
 
 -- how many bits a field of w bits takes that is there or not
@@ -76,6 +76,17 @@ pub longest : (f : ℕ) (s : Store) → Accepted s → lengthIn f s ≤ 275
 unfolding lengthIn
 longest f s e =
     omega (arith, length-image f s, heights-counted s, accepted-most s e, accepted-shaped s e .shafts, few-fields (ownDepths f) (s .m) 16 (accepted-shaped s e .shafts) (omega arith))
+
+-- the image in form 1 is the longest
+pub length-most : (f : ℕ) (s : Store) → f ≤ lastForm → 0 < s .m → lengthIn f s ≤ lengthIn lastForm s
+unfolding lengthIn
+length-most f s h m = omega (arith, length-image f s, length-image lastForm s, few-fields (ownDepths f) (s .m) (s .m) (omega arith) m)
+
+-- so many bytes are so many
+pub length-bytes : (k : ℕ) (l : List Bool) → length (bytesOf k l) ≡ k
+unfolding bytesOf
+length-bytes zero l = refl
+length-bytes (suc k) l = ap suc (length-bytes k (drop 8 l))
 
 -- stores of one frame with equally many cassettes are written in equally many bytes
 pub length-frame : (s t : Store) → SameFrame s t → cassetteCount s ≡ cassetteCount t → imageLength s ≡ imageLength t

@@ -30,11 +30,12 @@ use Rattle.store.proofs.Once.{once-walks}
 use Rattle.store.proofs.Typed.{shown-at}
 use Rattle.store.proofs.Verdicts.{by-shafts}
 use Rattle.store.proofs.Walk.{shaft-none, not-too-high}
-use Rattle.image.specs.Image.{formWidth, frameWidth, lastForm, ownDepths, fieldIf, headBits, shaftsBits, imageBits, lengthIn, imageIn, EqualDepths, formOf, imageOf, formIn}
+use Rattle.image.specs.Image.{formWidth, frameWidth, lastForm, ownDepths, fieldIf, headBits, shaftsBits, imageBits, lengthIn, imageIn, EqualDepths, formOf, imageLength, imageOf, formIn}
 use Rattle.image.specs.Reading.{Reading, emptyStore, noDepths, next, padding, endFault, finish, readBody, readDepth, readSize, readForm, readImage}
 use Rattle.image.proofs.Cut.{cut, cut-to, cut-all, low-zero, held-same}
 use Rattle.image.proofs.Nexts.{accepted, unless-accepted, next-reads, took, if-reads, took-if}
 use Rattle.image.proofs.Forms.{form-equal, form-unequal, form-known, form-holds}
+use Rattle.image.proofs.Lengths.{length-bytes, length-most}
 use Rattle.image.proofs.ReadBack.{shafts-back}
 use Rattle.image.proofs.WriteBack.{Low, Settled, Shafts, shafts-read}
 
@@ -263,6 +264,16 @@ module _ (bytes : List ℕ) (s : Store) (i : ImageOf bytes s) where
   other-bytes r =
       let z = ap (λ (f : ℕ). imageIn f s) (form-equal s (r .1)) in
       (z, λ e. absurd (omega (arith, r .0, ap formIn (sym e ∙ z), image-form 0 s (omega arith))))
+
+  -- what is written is no longer than the image given
+  pub no-longer : imageLength s ≤ length bytes
+  unfolding imageIn imageLength
+  no-longer =
+      let n : length bytes ≡ lengthIn (formIn bytes) s = sym (ap length (i .is)) ∙ length-bytes (lengthIn (formIn bytes) s) _ in
+      elim (ℕ-discrete (formIn bytes) 0) [
+        | yes z ↦ omega (arith, ap (λ (f : ℕ). lengthIn f s) (form-equal s (i .equal z) ∙ sym z))
+        | no z ↦ (let one : formIn bytes ≡ 1 = omega (arith, i .known) in omega (arith, ap (λ (f : ℕ). lengthIn f s) one, length-most (formOf s) s (form-known s) (accepted-sound s (i .sound) .some-shaft)))
+      ]
 
 -- no two images in one form stand for one store
 pub one-image : (a b : List ℕ) (s : Store) → ImageOf a s → ImageOf b s → formIn a ≡ formIn b → a ≡ b

@@ -22,7 +22,7 @@ use Rattle.image.specs.declared.Written.{Written}
 use Rattle.image.specs.Image.{imageLength, imageOf}
 use Rattle.image.specs.Reading.{Reading}
 use Rattle.image.specs.Writing.{bytesAfter, WriteIs}
-use Rattle.image.proofs.Carried.{length-bytes}
+use Rattle.image.proofs.Lengths.{length-bytes}
 use Rattle.image.proofs.Refused.{not-refused}
 use Rattle.image.proofs.RoundTrip.{read-image}
 use Rattle.calls.specs.Shared.{answerOf, RefusedCall, storeIn, readFault}

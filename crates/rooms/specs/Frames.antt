@@ -1,4 +1,4 @@
--- A store that is lent as its two arrays, with its frame apart.
+-- A store that is lent as its heights and its slots, with its frame apart.
 use mathlib.Core.List.{List}
 use mathlib.Core.Path.{_≡_}
 use Prim.Native.Nat.{ℕ, _+_, _≤_}

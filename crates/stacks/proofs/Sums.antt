@@ -100,17 +100,11 @@ some-other-less n a f g p h = elim (look n a f g) [ found r ↦ r | nowhere l �
 pub some-less : (n : ℕ) (f g : ℕ → ℕ) → sum n f < sum n g → Less n n f g
 some-less n f g h = elim (look n n f g) [ found r ↦ r | nowhere l ↦ absurd (omega (arith, sum-le n g f (λ i p. l i p (omega arith)))) ]
 
--- a sum, and the greatest, of equal terms
+-- a sum of equal terms
 pub sum-same : (m k : ℕ) → sum m (λ i. k) ≡ m * k
 unfolding sum
 sum-same zero k = omega arith
 sum-same (suc m) k = omega (arith, sum-same m k)
-
-pub greatest-same : (m k : ℕ) → 0 < m → greatest m (λ i. k) ≡ k
-unfolding greatest
-greatest-same zero k h = absurd (omega arith)
-greatest-same (suc zero) k h = omega arith
-greatest-same (suc (suc m)) k h = omega (arith, greatest-same (suc m) k (omega arith))
 
 -- The sum of what is 0 everywhere is 0.
 pub sum-none : (n : ℕ) (f : ℕ → ℕ) → ((i : ℕ) → i < n → f i ≡ 0) → sum n f ≡ 0

@@ -1,6 +1,7 @@
 pub mod Acceptance
 pub mod Checks
 pub mod Counted
+pub mod Even
 pub mod Faults
 pub mod InPlace
 pub mod LiftExact
