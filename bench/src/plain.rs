@@ -23,7 +23,7 @@ pub fn reachable(case: &Case) -> Answer {
     Answer::of(number, 0)
 }
 
-/// Plans into a list. For three shafts or more with at least h empty slots, where every goal can be reached.
+/// Plans into a list. For three shafts or more of one depth h with at least h empty slots, where every goal can be reached.
 pub fn plan(case: &Case, list: &mut [u8]) -> Answer {
     match pair(case) {
         Err(number) => Answer::of(number, 0),
@@ -57,7 +57,7 @@ pub fn replay(case: &Case, list: &[u8], out: &mut [u8]) -> Answer {
         Ok(store) => store,
         Err(number) => return Answer::of(number, 0),
     };
-    if out.len() < case.start_image.len() {
+    if out.len() < image::length(&store) {
         return Answer::of(10, 0);
     }
     let (mut count, mut number) = (0, 0);
@@ -89,13 +89,13 @@ pub fn uncover(case: &Case, orders: &mut [Order]) -> Answer {
 /// The answer to an order. A blank is looked for in every shaft; any other number stands once, and the search ends where it is found.
 fn fewest_lifts(store: &Store, number: u16) -> Result<usize, u8> {
     let mut answer = Err(16);
-    for shaft in &store.shafts {
+    for (at, shaft) in store.shafts.iter().enumerate() {
         let mut downward = shaft.iter().rev();
         let Some(above) = downward.position(|&it| u16::from(it) == number) else {
             continue;
         };
         let row = shaft.len() - above;
-        let found = if row < store.floor() {
+        let found = if row < store.floor(at) {
             Err(17)
         } else {
             Ok(above)
@@ -120,7 +120,7 @@ fn nearer(one: Result<usize, u8>, other: Result<usize, u8>) -> Result<usize, u8>
 fn pair(case: &Case) -> Result<(Store, Store), u8> {
     let start = image::read(&case.start_image)?;
     let goal = image::read(&case.goal_image)?;
-    if (start.m(), start.depth) != (goal.m(), goal.depth) {
+    if start.depths != goal.depths {
         return Err(8);
     }
     if counts(&start) != counts(&goal) {
@@ -150,6 +150,8 @@ mod tests {
         let start = inputs::store(random);
         let goal = inputs::goal(random, &start);
         let mut case = Case::new(start, goal);
+        case.start_image = inputs::image(random, &case.start);
+        case.goal_image = inputs::image(random, &case.goal);
         match random.below(6) {
             0 => case.start_image = inputs::damaged(random),
             1 => case.goal_image = inputs::damaged(random),
@@ -199,9 +201,10 @@ mod tests {
     fn plan_gives_the_number_of_the_c_call() {
         let mut random = Random::new(53);
         let mut planned = [0; 2];
-        for _ in 0..6_000 {
+        for _ in 0..12_000 {
             let case = any_case(&mut random);
-            if case.start.m() < 3 || case.start.e() < case.start.depth {
+            let solved = case.start.equal_depths() && case.start.e() >= case.start.deepest();
+            if case.start.m() < 3 || !solved {
                 continue;
             }
             let mut list = vec![0; inputs::list_len(&mut random, &case.start)];

@@ -19,17 +19,17 @@ pub fn whole(seed: u64, stores: usize, rounds: usize) -> String {
     let mut stacks = Stacks::default();
     let mut orders = Orders::default();
     for shape in cases::shapes() {
-        let cases = cases::cases(&mut random, shape, stores);
+        let cases = cases::cases(&mut random, &shape, stores);
         stacks.add(&cases[0], &orders.row);
-        let [calls, plain] = timing::in_rounds(shape, &cases, rounds);
-        row(&mut table, shape, "(a)", &calls);
-        row(&mut table, shape, "(b)", &plain);
+        let [calls, plain] = timing::in_rounds(&shape, &cases, rounds);
+        row(&mut table, &shape, "(a)", &calls);
+        row(&mut table, &shape, "(b)", &plain);
         if let Some(search) = timing::search(&cases, SEARCHED) {
-            row(&mut table, shape, "(c)", &search);
+            row(&mut table, &shape, "(c)", &search);
         }
-        ratios.add(shape, &calls, &plain);
-        if (shape.m, shape.h) == (16, 16) {
-            orders.add(shape, &cases, rounds);
+        ratios.add(&shape, &calls, &plain);
+        if shape.is_largest() {
+            orders.add(&shape, &cases, rounds);
         }
     }
     let notes = notes(seed, stores, rounds);
@@ -50,11 +50,13 @@ Processor: {}. Seed {seed}.
 - (a) is Halyardgage's C calls. (b) is plain Rust that does the same work from the same images, and refuses what the calls
   refuse: reader, writer, lifts and rule are those of the tests' model, none of it made for speed, and it allocates, where (a)
   does not. To answer an order it looks for a blank in every shaft, and for any other number until it is found. Its plan is
-  the thesis's own solve, mended, on arrays, which covers e ≥ h. (c) is a full search in Rust, from stores that have been read
-  already, which also gives the fewest lifts; it is left out where it finds more than {MOST_STORES} stores.
+  the thesis's own solve, mended, on arrays, which covers equal depths and e ≥ h. (c) is a full search in Rust, from stores that
+  have been read already, which also gives the fewest lifts; it is left out where it finds more than {MOST_STORES} stores.
 - \"Half blank\": half of the cassettes are blanks. In all other rows no two cassettes are the same, so that at most one is a
   blank. The thesis knows no blanks: (b) first gives each a number of its own, in the order in which they stand, in start and
   goal alike, and so brings each to one slot where any blank would do.
+- \"16 shafts of depths 1 to 16\": the first has depth 1, the next 2, and so on. Its images are in form 1, all others in form 0,
+  and in 4hn + 8n the depth h is 16, that of the deepest shaft.
 - Each row has {stores} random pairs of stores, every goal one that can be reached, the same pairs for (a) and (b); for (c)
   the first {SEARCHED} of them. A check is of the start. (a) and (b) replay the same lists, which are (a)'s.
 - Each time is of one call: for each pair the median of {rounds} rounds, and the mean of these over the pairs. A round goes
@@ -78,7 +80,7 @@ fn processor() -> String {
         .map_or("not known".into(), |(_, model)| model.trim().into())
 }
 
-fn row(table: &mut String, shape: Shape, by: &str, measured: &Measured) {
+fn row(table: &mut String, shape: &Shape, by: &str, measured: &Measured) {
     writeln!(
         table,
         "| {shape} | {} | {} | {by} | {} | {} | {} | {} | {} |",
@@ -103,7 +105,7 @@ fn decimals(number: Option<f64>) -> String {
 }
 
 /// The last four columns.
-fn lifts(shape: Shape, lifts: &[usize]) -> String {
+fn lifts(shape: &Shape, lifts: &[usize]) -> String {
     let Some(&greatest) = lifts.iter().max() else {
         return "– | – | – | –".into();
     };
@@ -125,7 +127,7 @@ struct Ratios {
 }
 
 impl Ratios {
-    fn add(&mut self, shape: Shape, calls: &Measured, plain: &Measured) {
+    fn add(&mut self, shape: &Shape, calls: &Measured, plain: &Measured) {
         let ratios = [
             ratio(calls.plan, plain.plan),
             ratio(calls.yes_or_no, plain.yes_or_no),
@@ -182,7 +184,7 @@ impl Default for Orders {
 }
 
 impl Orders {
-    fn add(&mut self, shape: Shape, cases: &[Case], rounds: usize) {
+    fn add(&mut self, shape: &Shape, cases: &[Case], rounds: usize) {
         let [calls, plain] = timing::orders(cases, &self.row, rounds);
         self.rows += &format!(
             "| {shape} | {} | {} | {} | {} | {} |\n",

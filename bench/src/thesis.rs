@@ -1,5 +1,5 @@
 //! The solve of the thesis "Analysis of Confined Blocks World" (sections 3.2.2 to 3.2.4, appendices A and B), with the slips of
-//! its listings mended. It takes three columns or more with at least h empty slots, and builds the goal up row by row.
+//! its listings mended. It takes three columns or more of one depth h with at least h empty slots, and builds the goal up row by row.
 //!
 //! Mended: HMove's step 4 looks at `L2[0]` though L2 may be empty; where step 1 set blocks on the destination column, step 4
 //! may put one too many back there, so the last always goes to the source column, and step 5 does not fetch it again; VMove
@@ -20,9 +20,10 @@ pub struct Grid {
 
 impl Grid {
     pub fn new(store: &Store) -> Grid {
+        assert!(store.equal_depths(), "columns of one depth");
         let mut grid = Grid {
             m: store.m(),
-            h: store.depth,
+            h: store.deepest(),
             top: [0; 16],
             slots: [[0; 16]; 16],
             column: [0; 256],
@@ -250,7 +251,7 @@ mod tests {
             (3, 3, 3),
         ] {
             let cassettes: Vec<u8> = (1..=n).collect();
-            let stores = every_store(m, h, &cassettes);
+            let stores = every_store(&vec![h; m], &cassettes);
             for start in &stores {
                 stores.iter().for_each(|goal| solves(start, goal));
             }

@@ -95,8 +95,8 @@ const CALLS: Way = Way {
 };
 
 /// Plain Rust, which has no plan where the thesis has no solution.
-fn plain(shape: Shape) -> Way {
-    let solved = shape.e >= shape.h;
+fn plain(shape: &Shape) -> Way {
+    let solved = shape.equal_depths() && shape.e >= shape.deepest();
     Way {
         plan: solved.then_some(plain::plan),
         yes_or_no: plain::reachable,
@@ -129,6 +129,9 @@ impl Way {
         ([(self.yes_or_no)(case), (self.check)(case), replayed], out)
     }
 }
+
+/// The longest image, in bytes.
+const MOST_IMAGE: usize = 275;
 
 /// Space lent to the calls, the same each time.
 struct Lent {
@@ -187,7 +190,7 @@ impl<'a> Timed<'a> {
 }
 
 /// The C calls and plain Rust, in rounds that go through both. Both replay the lists of the C call.
-pub fn in_rounds(shape: Shape, cases: &[Case], rounds: usize) -> [Measured; 2] {
+pub fn in_rounds(shape: &Shape, cases: &[Case], rounds: usize) -> [Measured; 2] {
     let ways = [CALLS, plain(shape)];
     let lists = ways.map(|way| way.lists(cases));
     for (case, list) in cases.iter().zip(&lists[0]) {
@@ -195,7 +198,7 @@ pub fn in_rounds(shape: Shape, cases: &[Case], rounds: usize) -> [Measured; 2] {
     }
     let mut lent = Lent {
         list: vec![0; LENT],
-        out: vec![0; 300],
+        out: vec![0; MOST_IMAGE],
     };
     let mut timed = ways.map(|way| Timed::new(way, cases));
     for _ in 0..rounds {

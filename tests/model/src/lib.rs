@@ -1,5 +1,5 @@
 //! Stores, images, lifts, a full search and the reachability rule of document 01, written from that document alone, and of document 02 the orders, by a rule
-//! that the tests hold to the search, what lifts carried, and the blanks.
+//! that the tests hold to the search, what lifts carried, the blanks, and the shafts of unequal depth.
 //!
 //! Nothing here is proved. The outside tests compare the proved library with it, and the tool and the benchmark use it.
 

@@ -19,7 +19,7 @@ pub fn refusal(store: &Store, lift: u8) -> Option<u8> {
         Some(11)
     } else if store.shafts[left].is_empty() {
         Some(13)
-    } else if store.shafts[entered].len() == store.depth {
+    } else if store.room(entered) == 0 {
         Some(14)
     } else {
         None
@@ -127,6 +127,27 @@ mod tests {
         let mut s = store("2x1: [1] [2]");
         assert_eq!(lift(&mut s, 0x01), Err(14));
         assert_eq!(s, store("2x1: [1] [2]"));
+    }
+
+    /// Three cassettes fill the first shaft, one the second, two the third.
+    #[test]
+    fn a_shaft_is_full_by_its_own_depth() {
+        let mut s = store("3x3,1,2: [1 2 3] [] [4 5]");
+        assert_eq!(legal_lifts(&s), [0x01, 0x21]);
+        assert_eq!(lift(&mut s, 0x01).unwrap().row, 1);
+        for byte in [0x01, 0x21, 0x02, 0x12] {
+            assert_eq!(lift(&mut s, byte), Err(14), "{byte:02x}");
+        }
+        assert_eq!(lift(&mut s, 0x20).unwrap().row, 3);
+        assert_eq!(lift(&mut s, 0x10), Err(14));
+        assert_eq!(s, store("3x3,1,2: [1 2 5] [3] [4]"));
+    }
+
+    #[test]
+    fn a_goal_has_the_depths_of_its_start() {
+        let start = store("3x2,2,1: [1] [2] []");
+        assert!(leads(&start, &[0x02], &store("3x2,2,1: [] [2] [1]")));
+        assert!(!leads(&start, &[0x02], &store("3x2: [] [2] [1]")));
     }
 
     #[test]

@@ -80,25 +80,29 @@ impl Random {
     /// A store of `m` shafts of depth `h` with `n` different cassettes.
     pub fn store(&mut self, m: usize, h: usize, n: usize) -> Store {
         let cassettes = self.cassettes(n);
-        self.stand(Store::empty(m, h), &cassettes)
+        self.in_shafts(&vec![h; m], cassettes)
     }
 
     /// A store of `m` shafts of depth `h` with `n` cassettes of which so many are blanks.
     pub fn store_with_blanks(&mut self, m: usize, h: usize, n: usize, blanks: usize) -> Store {
         let cassettes = self.cassettes_with_blanks(n, blanks);
-        self.stand(Store::empty(m, h), &cassettes)
+        self.in_shafts(&vec![h; m], cassettes)
     }
 
-    /// A store of the same shape and cassettes, each anywhere.
+    /// A store of the same depths and cassettes, each anywhere.
     pub fn rearranged(&mut self, store: &Store) -> Store {
-        self.in_shape(store.m(), store.depth, store)
+        self.in_shafts(&store.depths, store.cassettes())
     }
 
-    /// The cassettes of a store, each anywhere in `m` shafts of depth `h`.
-    pub fn in_shape(&mut self, m: usize, h: usize, store: &Store) -> Store {
-        let mut cassettes = store.cassettes();
+    /// These cassettes, each anywhere in shafts of these depths.
+    pub fn in_shafts(&mut self, depths: &[usize], mut cassettes: Vec<u8>) -> Store {
         self.shuffle(&mut cassettes);
-        self.stand(Store::empty(m, h), &cassettes)
+        self.stand(Store::empty_of(depths), &cassettes)
+    }
+
+    /// Depths for `m` shafts, each from 1 to `most`.
+    pub fn depths(&mut self, m: usize, most: usize) -> Vec<usize> {
+        (0..m).map(|_| self.from_to(1, most)).collect()
     }
 
     /// A goal that can be reached from a store.
@@ -134,10 +138,10 @@ impl Random {
         let mut left = cassettes;
         while !left.is_empty() {
             let open = with_room(&store);
-            let shaft = &mut store.shafts[*self.one_of(&open)];
-            let most = left.len().min(store.depth - shaft.len());
+            let shaft = *self.one_of(&open);
+            let most = left.len().min(store.room(shaft));
             let run = if in_runs { self.from_to(1, most) } else { 1 };
-            shaft.extend_from_slice(&left[..run]);
+            store.shafts[shaft].extend_from_slice(&left[..run]);
             left = &left[run..];
         }
         store
@@ -145,22 +149,22 @@ impl Random {
 
     fn same_reading(&mut self, store: &Store) -> Store {
         let reading = rule::two_shaft_reading(store);
-        let least = reading.len().saturating_sub(store.depth);
-        let most = reading.len().min(store.depth);
+        let least = reading.len().saturating_sub(store.depths[1]);
+        let most = reading.len().min(store.depths[0]);
         let (up, down) = reading.split_at(self.from_to(least, most));
         Store {
-            depth: store.depth,
+            depths: store.depths.clone(),
             shafts: vec![up.to_vec(), down.iter().rev().copied().collect()],
         }
     }
 
     fn same_floor(&mut self, store: &Store) -> Store {
-        let rows = store.floor();
         let mut goal = store.clone();
         let mut free: Vec<u8> = goal
             .shafts
             .iter_mut()
-            .flat_map(|shaft| shaft.split_off(rows))
+            .zip(store.floors())
+            .flat_map(|(shaft, rows)| shaft.split_off(rows))
             .collect();
         self.shuffle(&mut free);
         self.stand(goal, &free)
@@ -172,7 +176,7 @@ type Slot = (usize, usize);
 
 fn with_room(store: &Store) -> Vec<usize> {
     (0..store.m())
-        .filter(|&shaft| store.shafts[shaft].len() < store.depth)
+        .filter(|&shaft| store.room(shaft) > 0)
         .collect()
 }
 
@@ -186,7 +190,7 @@ fn all_slots(store: &Store) -> Vec<Slot> {
 fn bound_slots(store: &Store) -> Vec<Slot> {
     let mut slots = all_slots(store);
     if store.m() >= 3 {
-        slots.retain(|&(_, row)| row < store.floor());
+        slots.retain(|&(shaft, row)| row < store.floor(shaft));
     }
     slots
 }
@@ -213,34 +217,77 @@ mod tests {
     }
 
     /// Cassettes for so many slots: different ones where there are enough, blanks alone, blanks but for a few, or half of them blanks.
-    fn any_store(random: &mut Random, m: usize, h: usize, n: usize) -> Store {
+    fn any_cassettes(random: &mut Random, n: usize) -> Vec<u8> {
         match random.below(4) {
-            0 if n <= MOST_CASSETTE => random.store(m, h, n),
-            1 => random.store_with_blanks(m, h, n, n),
-            2 => random.store_with_blanks(m, h, n, n.saturating_sub(3)),
-            _ => random.store_with_blanks(m, h, n, n.div_ceil(2)),
+            0 if n <= MOST_CASSETTE => random.cassettes(n),
+            1 => random.cassettes_with_blanks(n, n),
+            2 => random.cassettes_with_blanks(n, n.saturating_sub(3)),
+            _ => random.cassettes_with_blanks(n, n.div_ceil(2)),
         }
+    }
+
+    /// Goals for stores of these depths. They have the depths and cassettes of the store, and no shaft is too high. Of those that can't be reached, how many
+    /// there were without blanks and with them, each for two shafts at most and for more.
+    fn goals_of(seed: u64, depths: fn(&mut Random, usize) -> Vec<usize>) -> [usize; 4] {
+        let mut random = Random::new(seed);
+        let mut refused = [0; 4];
+        for _ in 0..6000 {
+            let m = random.from_to(1, 16);
+            let depths = depths(&mut random, m);
+            let n = random.from_to(0, depths.iter().sum());
+            let cassettes = any_cassettes(&mut random, n);
+            let store = random.in_shafts(&depths, cassettes);
+            assert_eq!((&store.depths, store.m(), store.n()), (&depths, m, n));
+            let fits = |goal: &Store| {
+                let in_depth = |shaft: usize| goal.shafts[shaft].len() <= depths[shaft];
+                goal.depths == depths && (0..m).all(in_depth) && goal.sorted() == store.sorted()
+            };
+            let goal = random.reachable_goal(&store);
+            assert!(fits(&goal) && rule::reachable(&store, &goal));
+            assert!(fits(&random.rearranged(&store)));
+            if let Some(goal) = random.unreachable_goal(&store) {
+                assert!(fits(&goal) && !rule::reachable(&store, &goal));
+                refused[usize::from(store.blanks() > 1) * 2 + usize::from(m > 2)] += 1;
+            }
+        }
+        refused
     }
 
     #[test]
     fn goals_are_what_they_are_called() {
-        let mut random = Random::new(1);
-        let mut refused = [0; 4];
-        for _ in 0..6000 {
-            let (m, h) = (random.from_to(1, 16), random.from_to(1, 16));
-            let n = random.from_to(0, m * h);
-            let store = any_store(&mut random, m, h, n);
-            assert_eq!((store.m(), store.depth, store.n()), (m, h, n));
-            let goal = random.reachable_goal(&store);
-            assert_eq!(goal.sorted(), store.sorted());
-            assert!(rule::reachable(&store, &goal));
-            if let Some(goal) = random.unreachable_goal(&store) {
-                assert_eq!(goal.sorted(), store.sorted());
-                assert!(!rule::reachable(&store, &goal));
-                refused[usize::from(store.blanks() > 1) * 2 + usize::from(m > 2)] += 1;
-            }
-        }
+        let refused = goals_of(1, |random, m| vec![random.from_to(1, 16); m]);
         assert!(refused.iter().all(|&count| count > 100), "{refused:?}");
+    }
+
+    #[test]
+    fn goals_in_shafts_of_unequal_depth() {
+        let refused = goals_of(4, |random, m| random.depths(m, 16));
+        assert!(refused.iter().all(|&count| count > 100), "{refused:?}");
+    }
+
+    /// Every depth in every shaft.
+    #[test]
+    fn depths_from_1_to_the_most() {
+        let mut random = Random::new(5);
+        let mut met = [[false; 6]; 3];
+        for _ in 0..300 {
+            let depths = random.depths(3, 5);
+            (0..3).for_each(|shaft| met[shaft][depths[shaft]] = true);
+        }
+        assert_eq!(met, [[false, true, true, true, true, true]; 3]);
+    }
+
+    /// The splits of a reading that two shafts of depth 4 and 1 have room for, each met.
+    #[test]
+    fn readings_of_two_unequal_shafts() {
+        let mut random = Random::new(6);
+        let store = random.in_shafts(&[4, 1], vec![1, 2, 3]);
+        let mut heights = [0; 4];
+        for _ in 0..100 {
+            heights[random.reachable_goal(&store).shafts[0].len()] += 1;
+        }
+        assert!(heights[0] == 0 && heights[1] == 0, "{heights:?}");
+        assert!(heights[2] > 0 && heights[3] > 0, "{heights:?}");
     }
 
     /// "If there is one": none where all cassettes are blanks, and one wherever a bound cassette has another beside it that differs.

@@ -99,10 +99,10 @@ impl Search {
     }
 }
 
-/// Every store of `m` shafts of depth `h` with these cassettes, each once, also where a number stands more than once among them.
-pub fn every_store(m: usize, h: usize, cassettes: &[u8]) -> Vec<Store> {
+/// Every store of shafts of these depths with these cassettes, each once, also where a number stands more than once among them.
+pub fn every_store(depths: &[usize], cassettes: &[u8]) -> Vec<Store> {
     let mut stores = Vec::new();
-    extend_every(&Store::empty(m, h), 0, cassettes, &mut stores);
+    extend_every(&Store::empty_of(depths), 0, cassettes, &mut stores);
     stores
 }
 
@@ -115,7 +115,7 @@ fn extend_every(store: &Store, shaft: usize, left: &[u8], stores: &mut Vec<Store
         return;
     }
     extend_every(store, shaft + 1, left, stores);
-    if store.shafts[shaft].len() == store.depth {
+    if store.room(shaft) == 0 {
         return;
     }
     for i in 0..left.len() {
@@ -185,27 +185,43 @@ mod tests {
 
     #[test]
     fn counts_of_stores() {
-        assert_eq!(every_store(3, 2, &[]).len(), 1);
-        assert_eq!(every_store(3, 1, &[7, 9]).len(), 6);
-        assert_eq!(every_store(2, 2, &[1, 2, 3]).len(), 12);
-        assert_eq!(every_store(3, 2, &[1, 2, 3, 4, 5, 6]).len(), 720);
-        assert_eq!(every_store(3, 1, &[BLANK, BLANK]).len(), 3);
-        assert_eq!(every_store(2, 2, &[BLANK, 1, BLANK]).len(), 6);
+        assert_eq!(every_store(&[2; 3], &[]).len(), 1);
+        assert_eq!(every_store(&[1; 3], &[7, 9]).len(), 6);
+        assert_eq!(every_store(&[2; 2], &[1, 2, 3]).len(), 12);
+        assert_eq!(every_store(&[2; 3], &[1, 2, 3, 4, 5, 6]).len(), 720);
+        assert_eq!(every_store(&[1; 3], &[BLANK, BLANK]).len(), 3);
+        assert_eq!(every_store(&[2; 2], &[BLANK, 1, BLANK]).len(), 6);
         assert_eq!(
-            every_store(3, 2, &[1, 2, 3, BLANK, BLANK, BLANK]).len(),
+            every_store(&[2; 3], &[1, 2, 3, BLANK, BLANK, BLANK]).len(),
             120
         );
-        assert_eq!(every_store(3, 2, &[BLANK; 6]).len(), 1);
+        assert_eq!(every_store(&[2; 3], &[BLANK; 6]).len(), 1);
+    }
+
+    /// In depths 2 and 1, three different cassettes fill all slots, and two leave one of them empty: on top of either shaft.
+    #[test]
+    fn counts_of_stores_of_unequal_depths() {
+        assert_eq!(every_store(&[2, 1], &[1, 2, 3]).len(), 6);
+        assert_eq!(every_store(&[2, 1], &[1, 2]).len(), 4);
+        assert_eq!(every_store(&[1, 2], &[1, 2]).len(), 4);
+        assert_eq!(every_store(&[3, 1, 1], &[BLANK, 1, BLANK]).len(), 12);
+        assert_eq!(every_store(&[1, 2, 3], &[1, 2, 3, 4, 5, 6]).len(), 720);
+        for store in every_store(&[1, 3, 2], &[1, 2, 3, 4]) {
+            assert_eq!((store.depths.as_slice(), store.n()), (&[1, 3, 2][..], 4));
+            assert!((0..3).all(|shaft| store.shafts[shaft].len() <= store.depths[shaft]));
+        }
     }
 
     #[test]
     fn no_store_twice() {
-        for cassettes in [[1, 2, 3, 4], [BLANK, 1, BLANK, 2]] {
-            let stores = every_store(3, 2, &cassettes);
-            let mut images: Vec<_> = stores.iter().map(image::write).collect();
-            images.sort();
-            images.dedup();
-            assert_eq!(images.len(), stores.len());
+        for depths in [[2; 3], [3, 1, 2]] {
+            for cassettes in [[1, 2, 3, 4], [BLANK, 1, BLANK, 2]] {
+                let stores = every_store(&depths, &cassettes);
+                let mut images: Vec<_> = stores.iter().map(image::write).collect();
+                images.sort();
+                images.dedup();
+                assert_eq!(images.len(), stores.len());
+            }
         }
     }
 
@@ -213,7 +229,7 @@ mod tests {
     #[test]
     fn stores_with_blanks_are_stores_painted_over() {
         let paint = |cassette: &u8| if *cassette > 2 { BLANK } else { *cassette };
-        let painted = every_store(3, 2, &[1, 2, 3, 4, 5])
+        let painted = every_store(&[2; 3], &[1, 2, 3, 4, 5])
             .into_iter()
             .map(|mut store| {
                 let slots = store.shafts.iter_mut().flatten();
@@ -221,7 +237,7 @@ mod tests {
                 image::write(&store)
             });
         let painted: HashSet<_> = painted.collect();
-        let stores = every_store(3, 2, &[1, 2, BLANK, BLANK, BLANK]);
+        let stores = every_store(&[2; 3], &[1, 2, BLANK, BLANK, BLANK]);
         assert_eq!(painted, stores.iter().map(image::write).collect());
     }
 
@@ -236,7 +252,7 @@ mod tests {
 
     #[test]
     fn fewest_lifts_to_a_store() {
-        let stores = every_store(3, 1, &[1, 2]);
+        let stores = every_store(&[1; 3], &[1, 2]);
         let (from, to) = (store("3x1: [1] [2] []"), store("3x1: [2] [1] []"));
         let fewest = Lifts::between(&stores).fewest(|it| *it == to);
         for (it, fewest) in stores.iter().zip(fewest) {

@@ -1,4 +1,5 @@
-//! Stores as text such as `3x2: [1 2] [b] [3 b]`: shafts, depth, and the cassettes of each shaft bottom first, with `b` for a blank.
+//! Stores as text such as `3x2: [1 2] [b] [3 b]`: shafts, depth, and the cassettes of each shaft bottom first, with `b` for a blank. Where the depths are
+//! unequal there is one for each shaft: `3x3,2,2: [1 2 3] [4] [5]`.
 //! Lists as text such as the program `plan` prints.
 
 use crate::play;
@@ -14,7 +15,18 @@ pub fn write(store: &Store) -> String {
         .iter()
         .map(|shaft| write_shaft(shaft))
         .collect();
-    format!("{}x{}: {}", store.m(), store.depth, shafts.join(" "))
+    let depths = write_depths(store);
+    format!("{}x{depths}: {}", store.m(), shafts.join(" "))
+}
+
+/// The depth of all shafts, or, where they are unequal, that of each.
+fn write_depths(store: &Store) -> String {
+    let depths: Vec<String> = store.depths.iter().map(usize::to_string).collect();
+    if store.equal_depths() {
+        depths[0].clone()
+    } else {
+        depths.join(",")
+    }
 }
 
 fn write_shaft(shaft: &[u8]) -> String {
@@ -33,15 +45,30 @@ pub fn write_cassette(cassette: u8) -> String {
 /// The store of a text, or what is wrong with it.
 pub fn read(text: &str) -> Result<Store, String> {
     let (shape, shafts) = text.split_once(':').ok_or("no ':' after the shape")?;
-    let (m, h) = shape.split_once('x').ok_or("the shape is not like 3x2")?;
+    let (m, depths) = shape
+        .split_once('x')
+        .ok_or("the shape is not like 3x2 or 3x3,2,2")?;
     let m = number(m, 1, MOST_SHAFTS)?;
-    let h = number(h, 1, MOST_DEPTH)?;
     let store = Store {
-        depth: h,
+        depths: read_depths(depths, m)?,
         shafts: read_shafts(shafts)?,
     };
-    check(&store, m)?;
+    check(&store)?;
     Ok(store)
+}
+
+/// One depth for all of `m` shafts, or one for each.
+fn read_depths(text: &str, m: usize) -> Result<Vec<usize>, String> {
+    let depth = |word| number(word, 1, MOST_DEPTH);
+    let depths: Vec<usize> = text.split(',').map(depth).collect::<Result<_, _>>()?;
+    match depths[..] {
+        [depth] => Ok(vec![depth; m]),
+        _ if depths.len() == m => Ok(depths),
+        _ => Err(format!(
+            "one depth or {m} depths are due, there are {}",
+            depths.len()
+        )),
+    }
 }
 
 fn read_shafts(mut text: &str) -> Result<Vec<Vec<u8>>, String> {
@@ -80,13 +107,16 @@ fn number(word: &str, least: usize, most: usize) -> Result<usize, String> {
         .ok_or_else(|| format!("not a number from {least} to {most}: {}", word.trim()))
 }
 
-/// The store has `m` shafts, none too high, and no cassette twice but blanks.
-fn check(store: &Store, m: usize) -> Result<(), String> {
-    if store.m() != m {
-        return Err(format!("{m} shafts are due, there are {}", store.m()));
+/// The store has as many shafts as depths, none higher than its depth, and no cassette twice but blanks.
+fn check(store: &Store) -> Result<(), String> {
+    let (due, there) = (store.depths.len(), store.m());
+    if due != there {
+        return Err(format!("{due} shafts are due, there are {there}"));
     }
-    if let Some(shaft) = store.shafts.iter().position(|s| s.len() > store.depth) {
-        return Err(format!("shaft {shaft} is higher than {}", store.depth));
+    let too_high = |&shaft: &usize| store.shafts[shaft].len() > store.depths[shaft];
+    if let Some(shaft) = (0..store.m()).find(too_high) {
+        let depth = store.depths[shaft];
+        return Err(format!("shaft {shaft} is higher than its depth, {depth}"));
     }
     let twice = |two: &&[u8]| two[0] == two[1] && two[0] != BLANK;
     match store.sorted().windows(2).find(twice) {
@@ -137,11 +167,58 @@ mod tests {
             "1x1: []",
             "2x16: [b] [16 4 9]",
             "2x3: [b 1 b] [b b]",
+            "3x3,2,2: [1 2 3] [4] [5]",
+            "2x1,16: [] [1 2 3]",
         ] {
             assert_eq!(write(&read(text).unwrap()), text);
         }
         let spaced = read(" 2 x 3 :[ 1  2 ][3]").unwrap();
         assert_eq!(write(&spaced), "2x3: [1 2] [3]");
+    }
+
+    #[test]
+    fn depths_by_shaft() {
+        let unequal = read("3x3,2,2: [1 2 3] [4] []").unwrap();
+        assert_eq!(unequal.depths, [3, 2, 2]);
+        assert_eq!(unequal.shafts, [vec![1, 2, 3], vec![4], vec![]]);
+        let spaced = read("3x 3, 2 ,2:[1 2 3][4][]").unwrap();
+        assert_eq!(spaced, unequal);
+        for text in ["3x2,2,2: [1 2] [] [3]", "3x2: [1 2] [] [3]"] {
+            let equal = read(text).unwrap();
+            assert_eq!(equal.depths, [2, 2, 2]);
+            assert_eq!(write(&equal), "3x2: [1 2] [] [3]");
+        }
+    }
+
+    #[test]
+    fn what_is_wrong_with_depths() {
+        for (text, wrong) in [
+            (
+                "3x3,2: [] [] []",
+                "one depth or 3 depths are due, there are 2",
+            ),
+            (
+                "3x3,2,2,1: [] [] []",
+                "one depth or 3 depths are due, there are 4",
+            ),
+            ("1x3,2: []", "one depth or 1 depths are due, there are 2"),
+            ("3x3,0,2: [] [] []", "not a number from 1 to 16: 0"),
+            ("3x3,2,17: [] [] []", "not a number from 1 to 16: 17"),
+            ("3x0: [] [] []", "not a number from 1 to 16: 0"),
+            ("3x3,,2: [] [] []", "not a number from 1 to 16: "),
+            ("3x3,2,2: [] []", "3 shafts are due, there are 2"),
+            (
+                "3x3,2,2: [] [1 2 3] []",
+                "shaft 1 is higher than its depth, 2",
+            ),
+            (
+                "3x2,2,1: [1 2] [] [3 4]",
+                "shaft 2 is higher than its depth, 1",
+            ),
+            ("2x1: [1 2] []", "shaft 0 is higher than its depth, 1"),
+        ] {
+            assert_eq!(read(text), Err(wrong.into()), "{text}");
+        }
     }
 
     #[test]

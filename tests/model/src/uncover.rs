@@ -1,4 +1,4 @@
-//! How deep a cassette is buried (document 02, 1/13), and how deep some blank (5/13).
+//! How deep a cassette is buried (document 02, 1/13), and how deep some blank (5/13), in shafts of any depths (7/13).
 
 use crate::store::Store;
 
@@ -17,9 +17,8 @@ pub fn uncover(store: &Store, cassette: u16) -> Result<usize, u8> {
 
 /// Of the places that show a number and can be uncovered, one that the fewest cassettes stand on.
 pub fn nearest(store: &Store, cassette: u16) -> Option<Place> {
-    let lowest = store.floor();
     places(store, cassette)
-        .filter(|&(_, row)| row >= lowest)
+        .filter(|&(shaft, row)| row >= store.floor(shaft))
         .min_by_key(|&place| above(store, place))
 }
 
@@ -69,6 +68,20 @@ mod tests {
         assert_eq!(crowded, [Ok(3), Ok(2), Ok(2), Ok(1), Ok(0)]);
         let full = answers("2x2: [1 2] [3 4]", &[1, 2, 3, 4]);
         assert_eq!(full, [Err(17), Ok(0), Err(17), Ok(0)]);
+    }
+
+    /// With two empty slots row 2 is the lowest to be uncovered in the shaft of depth 4, row 1 in those of depth 3 and 2, full or not.
+    #[test]
+    fn each_shaft_has_its_own_floor() {
+        let deep = answers("3x4,3,2: [1 2 3 4] [5 6] [7]", &[1, 2, 3, 5, 7]);
+        assert_eq!(deep, [Err(17), Ok(2), Ok(1), Ok(1), Ok(0)]);
+        let full = answers("3x4,3,2: [1 2] [5 6 8] [7 9]", &[1, 2, 5, 7]);
+        assert_eq!(full, [Err(17), Ok(0), Ok(2), Ok(1)]);
+        let two = answers("2x4,2: [1 2 3] [4]", &[1, 2, 3, 4]);
+        assert_eq!(two, [Err(17), Ok(1), Ok(0), Ok(0)]);
+        assert_eq!(blank("3x4,3,2: [b 1] [2 b 3] [4 5]"), Ok(1));
+        assert_eq!(blank("3x4,3,2: [b 1] [b 2 3] [4 5]"), Ok(2));
+        assert_eq!(blank("3x4,1,1: [b b 2 3] [1] []"), Err(17));
     }
 
     #[test]

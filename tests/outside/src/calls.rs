@@ -1,7 +1,7 @@
 //! The five C calls, each on guarded bytes and orders.
 
 use crate::guarded::{Guarded, Noise};
-use halyard_model::Random;
+use halyard_model::{Random, image};
 
 pub mod c {
     //! As include/halyardgage.h declares them.
@@ -97,11 +97,25 @@ pub struct Written<T = u8> {
     pub space: Guarded<T>,
 }
 
+/// The first field of an image.
+fn form(image: &[u8]) -> Option<u8> {
+    image.first().map(|byte| byte >> 4)
+}
+
+/// The image of a store of unequal depths, which only form 1 has.
+fn unequal(image: &[u8]) -> bool {
+    form(image) == Some(1) && image::read(image).is_ok_and(|store| !store.equal_depths())
+}
+
 /// Makes the calls, with noise from a generator of its own, and sees after each that what it was given to read is unchanged.
 pub struct Caller {
     random: Random,
     guard: usize,
     answers: [u64; 256],
+    unequal: [u64; 256],
+    mixed: [u64; 256],
+    rewritten: u64,
+    shortened: u64,
     orders: [u64; 256],
     lifts: [u64; 256],
 }
@@ -112,6 +126,10 @@ impl Caller {
             random: Random::new(seed),
             guard,
             answers: [0; 256],
+            unequal: [0; 256],
+            mixed: [0; 256],
+            rewritten: 0,
+            shortened: 0,
             orders: [0; 256],
             lifts: [0; 256],
         }
@@ -120,6 +138,26 @@ impl Caller {
     /// How many answers had a number.
     pub fn answers_with(&self, number: u8) -> u64 {
         self.answers[usize::from(number)]
+    }
+
+    /// How many answers had a number where the image, or that of the start, has unequal depths.
+    pub fn unequal_with(&self, number: u8) -> u64 {
+        self.unequal[usize::from(number)]
+    }
+
+    /// How many answers had a number where of start and goal one was in form 0 and one in form 1.
+    pub fn mixed_with(&self, number: u8) -> u64 {
+        self.mixed[usize::from(number)]
+    }
+
+    /// How many replays wrote an image in another form than the one given.
+    pub fn rewritten(&self) -> u64 {
+        self.rewritten
+    }
+
+    /// How many of those were lent less than the image given has.
+    pub fn shortened(&self) -> u64 {
+        self.shortened
     }
 
     /// How many orders were answered with a number.
@@ -132,10 +170,30 @@ impl Caller {
         self.lifts[usize::from(lifts)]
     }
 
-    fn answer(&mut self, bits: u64) -> Answer {
+    fn answer(&mut self, bits: u64, image: &Guarded) -> Answer {
         let answer = Answer::from_bits(bits);
         self.answers[usize::from(answer.number)] += 1;
+        if unequal(image.content()) {
+            self.unequal[usize::from(answer.number)] += 1;
+        }
         answer
+    }
+
+    fn answer_on_two(&mut self, bits: u64, start: &Guarded, goal: &Guarded) -> Answer {
+        let answer = self.answer(bits, start);
+        let forms = [form(start.content()), form(goal.content())];
+        if forms == [Some(0), Some(1)] || forms == [Some(1), Some(0)] {
+            self.mixed[usize::from(answer.number)] += 1;
+        }
+        answer
+    }
+
+    /// Counts a replay that has written an image.
+    fn count_written(&mut self, image: &Guarded, out: &Guarded) {
+        if form(image.content()) != form(out.content()) {
+            self.rewritten += 1;
+            self.shortened += u64::from(out.size() < image.size());
+        }
     }
 
     fn holding(&mut self, content: &[u8]) -> Guarded {
@@ -151,7 +209,7 @@ impl Caller {
         // SAFETY: the pointer has as many bytes as are named.
         let bits = unsafe { c::halyard_check(image.pointer(), image.size()) };
         assert!(image.kept_but(0), "check wrote to its image or beside it");
-        self.answer(bits)
+        self.answer(bits, &image)
     }
 
     pub fn reachable(&mut self, start: &[u8], goal: &[u8]) -> Answer {
@@ -165,7 +223,7 @@ impl Caller {
             "reachable wrote to its start or beside it"
         );
         assert!(goal.kept_but(0), "reachable wrote to its goal or beside it");
-        self.answer(bits)
+        self.answer_on_two(bits, &start, &goal)
     }
 
     pub fn plan(&mut self, start: &[u8], goal: &[u8], list_len: usize) -> Written {
@@ -185,7 +243,7 @@ impl Caller {
         assert!(start.kept_but(0), "plan wrote to its start or beside it");
         assert!(goal.kept_but(0), "plan wrote to its goal or beside it");
         Written {
-            answer: self.answer(bits),
+            answer: self.answer_on_two(bits, &start, &goal),
             space: list,
         }
     }
@@ -206,10 +264,11 @@ impl Caller {
         };
         assert!(image.kept_but(0), "replay wrote to its image or beside it");
         assert!(list.kept_but(0), "replay wrote to its list or beside it");
-        Written {
-            answer: self.answer(bits),
-            space: out,
+        let answer = self.answer(bits, &image);
+        if matches!(answer.number, 0 | 11 | 13 | 14) {
+            self.count_written(&image, &out);
         }
+        Written { answer, space: out }
     }
 
     pub fn uncover(&mut self, image: &[u8], orders: &[Order]) -> Written<Order> {
@@ -225,7 +284,7 @@ impl Caller {
             )
         };
         assert!(image.kept_but(0), "uncover wrote to its image or beside it");
-        let answer = self.answer(bits);
+        let answer = self.answer(bits, &image);
         if answer.number == 0 {
             self.count(orders.content());
         }

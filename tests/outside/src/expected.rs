@@ -12,7 +12,7 @@ pub fn check(bytes: &[u8]) -> Answer {
 pub fn pair(start: &[u8], goal: &[u8]) -> Result<(Store, Store), u8> {
     let start = image::read(start)?;
     let goal = image::read(goal)?;
-    if (start.m(), start.depth) != (goal.m(), goal.depth) {
+    if start.depths != goal.depths {
         return Err(8);
     }
     if start.sorted() != goal.sorted() {
@@ -30,10 +30,10 @@ pub fn reachable(start: &[u8], goal: &[u8]) -> u8 {
     }
 }
 
-/// What a replay answers and writes: nothing where it is refused.
+/// What a replay answers and writes: nothing where it is refused. 10 goes by the image that it writes, which is as long wherever its lifts lead.
 pub fn replay(image: &[u8], list: &[u8], out_len: usize) -> (Answer, Vec<u8>) {
     let store = match image::read(image) {
-        Ok(_) if out_len < image.len() => return (Answer::of(10, 0), Vec::new()),
+        Ok(store) if out_len < image::length(&store) => return (Answer::of(10, 0), Vec::new()),
         Ok(store) => store,
         Err(number) => return (Answer::of(number, 0), Vec::new()),
     };

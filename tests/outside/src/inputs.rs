@@ -1,43 +1,70 @@
 //! Random inputs for the calls: pairs of stores, damaged images, lists, rows of orders.
 
 use crate::calls::Order;
-use halyard_model::image::{self, Field};
+use halyard_model::image::{self, Field, Form};
 use halyard_model::store::{BLANK, MOST_CASSETTE, MOST_DEPTH, MOST_SHAFTS};
 use halyard_model::{Random, Store, play};
 
 /// The most list space a plan can ask for.
 pub const MOST_LIST_SPACE: usize = 18_432;
 
-/// A store of any shape, or of the largest.
+/// A store of equal depths, or of unequal ones.
 pub fn store(random: &mut Random) -> Store {
-    let (m, h) = shape(random);
-    store_of_shape(random, m, h)
+    let depths = if random.below(2) == 0 {
+        equal_depths(random)
+    } else {
+        unequal_depths(random)
+    };
+    store_of(random, &depths)
 }
 
-/// A store of this shape with 0, 1, 2, h - 1, h, h + 1 or any number of empty slots, with different cassettes or with blanks.
-pub fn store_of_shape(random: &mut Random, m: usize, h: usize) -> Store {
-    let n = cassette_count(random, m, h);
-    if n <= MOST_CASSETTE && random.below(2) == 0 {
-        return random.store(m, h, n);
+/// A store of these depths with 0, 1, 2, h - 1, h, h + 1 or any number of empty slots, where h is the depth of some shaft, with different cassettes or with
+/// blanks.
+pub fn store_of(random: &mut Random, depths: &[usize]) -> Store {
+    let n = cassette_count(random, depths);
+    let cassettes = if n <= MOST_CASSETTE && random.below(2) == 0 {
+        random.cassettes(n)
+    } else {
+        let blanks = blank_count(random, n);
+        random.cassettes_with_blanks(n, blanks)
+    };
+    random.in_shafts(depths, cassettes)
+}
+
+/// The depths of the largest store, or any that are equal.
+fn equal_depths(random: &mut Random) -> Vec<usize> {
+    if random.below(4) == 0 {
+        return vec![MOST_DEPTH; MOST_SHAFTS];
     }
-    let blanks = blank_count(random, n);
-    random.store_with_blanks(m, h, n, blanks)
+    vec![random.from_to(1, MOST_DEPTH); random.from_to(1, MOST_SHAFTS)]
 }
 
-fn shape(random: &mut Random) -> (usize, usize) {
-    if random.below(8) == 0 {
-        return (MOST_SHAFTS, MOST_DEPTH);
+/// Depths that are mostly unequal: any, all but one of them equal, one of 1 among deeper ones, one deeper one among those of 1, or two shafts.
+fn unequal_depths(random: &mut Random) -> Vec<usize> {
+    let m = random.from_to(2, MOST_SHAFTS);
+    let (one, h) = (random.below(m), random.from_to(1, MOST_DEPTH));
+    match random.below(8) {
+        0 => with_one(vec![MOST_DEPTH; MOST_SHAFTS], one, h),
+        1 => with_one(vec![random.from_to(1, MOST_DEPTH); m], one, h),
+        2 => with_one(random.depths(m, MOST_DEPTH), one, 1),
+        3 => with_one(vec![1; m], one, h),
+        4 => random.depths(2, MOST_DEPTH),
+        _ => random.depths(m, MOST_DEPTH),
     }
-    (
-        random.from_to(1, MOST_SHAFTS),
-        random.from_to(1, MOST_DEPTH),
-    )
 }
 
-fn cassette_count(random: &mut Random, m: usize, h: usize) -> usize {
-    let many = random.below(m * h + 1);
+/// Depths with that of one shaft changed.
+fn with_one(mut depths: Vec<usize>, shaft: usize, depth: usize) -> Vec<usize> {
+    depths[shaft] = depth;
+    depths
+}
+
+fn cassette_count(random: &mut Random, depths: &[usize]) -> usize {
+    let slots: usize = depths.iter().sum();
+    let many = random.below(slots + 1);
+    let h = *random.one_of(depths);
     let e = *random.one_of(&[0, 1, 2, h - 1, h, h + 1, many]);
-    (m * h).saturating_sub(e)
+    slots.saturating_sub(e)
 }
 
 /// Of n cassettes none, one, two, half, all but three, all or any number. There are as many at least as leave the others different.
@@ -48,8 +75,22 @@ fn blank_count(random: &mut Random, n: usize) -> usize {
     blanks.clamp(least, n)
 }
 
+/// The image of a store in a form that it has: of equal depths in either.
+pub fn image(random: &mut Random, store: &Store) -> Vec<u8> {
+    let form = any_form(random, store);
+    image::write_in(store, form)
+}
+
+fn any_form(random: &mut Random, store: &Store) -> Form {
+    if random.below(2) == 0 {
+        image::form(store)
+    } else {
+        Form::Depths
+    }
+}
+
 /// A goal for a start: one that can be reached, the start itself, one just out of reach, any order of the same cassettes,
-/// or one of another shape or other cassettes.
+/// or one of other depths or other cassettes.
 pub fn goal(random: &mut Random, start: &Store) -> Store {
     match random.below(16) {
         0..8 => random.reachable_goal(start),
@@ -58,21 +99,39 @@ pub fn goal(random: &mut Random, start: &Store) -> Store {
             .unreachable_goal(start)
             .unwrap_or_else(|| random.rearranged(start)),
         12 => random.rearranged(start),
-        13 => other_shape(random, start),
+        13 => other_depths(random, start),
         14 => other_cassettes(random, start),
         _ => store(random),
     }
 }
 
-/// The same cassettes where they fit in a store with one shaft or one row more, or with shafts and depth exchanged.
-fn other_shape(random: &mut Random, start: &Store) -> Store {
-    let (m, h) = (start.m(), start.depth);
-    let (m, h) = *random.one_of(&[
-        ((m + 1).min(MOST_SHAFTS), h),
-        (m, (h + 1).min(MOST_DEPTH)),
-        (h, m),
-    ]);
-    random.in_shape(m, h, start)
+/// The same cassettes, or as many as fit, in a store with one shaft more or less, with one depth a row more or less, that of the last shaft or any, or with
+/// the depths in another order.
+pub fn other_depths(random: &mut Random, start: &Store) -> Store {
+    let mut depths = start.depths.clone();
+    let (m, last) = (start.m(), start.m() - 1);
+    match random.below(8) {
+        0 if m < MOST_SHAFTS => depths.push(random.from_to(1, MOST_DEPTH)),
+        1 if m > 1 => _ = depths.pop(),
+        2 => depths.rotate_left(1),
+        3..5 => depths[last] = near_depth(random, depths[last]),
+        _ => {
+            let any = random.below(m);
+            depths[any] = near_depth(random, depths[any]);
+        }
+    }
+    let mut cassettes = start.cassettes();
+    cassettes.truncate(depths.iter().sum());
+    random.in_shafts(&depths, cassettes)
+}
+
+/// A depth a row more or less.
+fn near_depth(random: &mut Random, depth: usize) -> usize {
+    match depth {
+        1 => 2,
+        MOST_DEPTH => MOST_DEPTH - 1,
+        _ => *random.one_of(&[depth - 1, depth + 1]),
+    }
 }
 
 /// The start with one cassette more, one less, or one that has changed its number, often from or to the blank's.
@@ -82,11 +141,10 @@ fn other_cassettes(random: &mut Random, start: &Store) -> Store {
         .filter(|cassette| !start.cassettes().contains(cassette))
         .collect();
     let at = random.below(goal.m());
-    let shaft = &mut goal.shafts[at];
-    let popped = random.below(2) == 0 && shaft.pop().is_some();
-    if shaft.len() < goal.depth && !(popped && random.below(3) == 0) {
+    let popped = random.below(2) == 0 && goal.shafts[at].pop().is_some();
+    if goal.room(at) > 0 && !(popped && random.below(3) == 0) {
         let blank = absent.is_empty() || random.below(2) == 0;
-        shaft.push(if blank {
+        goal.shafts[at].push(if blank {
             BLANK
         } else {
             *random.one_of(&absent)
@@ -109,12 +167,25 @@ pub fn list_len(random: &mut Random, start: &Store) -> usize {
     }
 }
 
+/// A length lent for a written image: as long as the one given or the one written, a little more or less, or any that is short.
+pub fn out_len(random: &mut Random, store: &Store, image: &[u8]) -> usize {
+    let length = *random.one_of(&[image.len(), image::length(store)]);
+    match random.below(8) {
+        0..2 => random.below(length),
+        2 => length - 1,
+        3 => length + 1,
+        4 => length + random.from_to(2, 64),
+        _ => length,
+    }
+}
+
 /// Bytes that are mostly no image: an image with something changed, cut off or added, or random bytes.
 pub fn damaged(random: &mut Random) -> Vec<u8> {
     let store = store(random);
-    let mut bytes = image::write(&store);
+    let form = any_form(random, &store);
+    let mut bytes = image::write_in(&store, form);
     match random.below(8) {
-        0..3 => bytes = with_a_field_changed(random, &store),
+        0..3 => bytes = with_a_field_changed(random, &store, form),
         3 => flip_a_bit(random, &mut bytes),
         4 => bytes.truncate(random.below(bytes.len())),
         5 => extend(random, &mut bytes),
@@ -124,16 +195,17 @@ pub fn damaged(random: &mut Random) -> Vec<u8> {
     bytes
 }
 
-/// One field has any value, or that of a cassette in the image, or the depth and one.
-fn with_a_field_changed(random: &mut Random, store: &Store) -> Vec<u8> {
-    let mut fields = image::fields(store);
+/// One field has any value, or that of a cassette in the image, or, where it is a height, its shaft's depth and one.
+fn with_a_field_changed(random: &mut Random, store: &Store, form: Form) -> Vec<u8> {
+    let mut fields = image::fields(store, form);
     let cassettes = store.cassettes();
     let at = random.below(fields.len());
     let Field { width, .. } = fields[at];
+    let heights_before = fields[..at].iter().filter(|field| field.width == 5).count();
     fields[at].value = match (random.below(4), width) {
         (0, 8) => usize::from(*random.one_of(&cassettes)),
         (1, 8) => 0,
-        (0, 5) => store.depth + 1,
+        (0, 5) => store.depths[heights_before] + 1,
         _ => random.below(1 << width),
     };
     image::pack(&fields)
@@ -159,14 +231,14 @@ fn extend(random: &mut Random, bytes: &mut Vec<u8>) {
     bytes.extend(noise.iter().map(|&byte| if zero { 0 } else { byte }));
 }
 
-/// Random bytes, mostly with a form of 0.
+/// Random bytes, mostly with a form of 0 or 1.
 fn random_bytes(random: &mut Random) -> Vec<u8> {
     let len = random.below(300);
     let mut bytes = random.bytes(len);
     if let Some(first) = bytes.first_mut()
         && random.below(4) > 0
     {
-        *first &= 0x0F;
+        *first &= 0x1F;
     }
     bytes
 }
@@ -247,6 +319,73 @@ mod tests {
         assert!(met(&stores, |it| it.blanks() > 1 && it.blanks() == it.n()) > 100);
         assert!(met(&stores, |it| it.n() == MOST_CASSETTES) > 40);
         assert!(met(&stores, |it| it.blanks() == MOST_CASSETTES) > 4);
+    }
+
+    /// Unequal depths in about half of the stores, also of two shafts, with depth 1 among deeper ones, and with one depth that differs from all others.
+    #[test]
+    fn stores_of_unequal_depths() {
+        let mut random = Random::new(73);
+        let stores: Vec<Store> = (0..4_000).map(|_| store(&mut random)).collect();
+        let met = |like: fn(&Store) -> bool| met(&stores, |it| !it.equal_depths() && like(it));
+        let all = met(|_| true);
+        assert!((1_600..2_200).contains(&all), "{all} stores");
+        assert!(met(|it| it.m() == 2) > 200);
+        assert!(met(|it| it.depths.contains(&1)) > 800);
+        assert!(
+            met(|it| it.depths.iter().filter(|&&depth| depth == 1).count() == it.m() - 1) > 150
+        );
+        assert!(met(|it| it.depths.iter().filter(|&&depth| depth == 16).count() == 15) > 150);
+        assert!(met(|it| it.e() == 0) > 200);
+        assert!(
+            met(|it| it.e() > 0
+                && it.floors().contains(&0)
+                && it.floors().iter().any(|&rows| rows > 0))
+                > 400
+        );
+    }
+
+    /// Images in both forms of stores of equal depths.
+    #[test]
+    fn images_in_either_form() {
+        let mut random = Random::new(74);
+        let [mut own, mut other] = [0, 0];
+        for _ in 0..4_000 {
+            let store = store(&mut random);
+            let image = image(&mut random, &store);
+            assert_eq!(image::read(&image).as_ref(), Ok(&store));
+            if image == image::write(&store) {
+                own += 1;
+            } else {
+                assert!(store.equal_depths());
+                other += 1;
+            }
+        }
+        assert!(own > 2_000 && other > 800, "{own} own, {other} other");
+    }
+
+    /// Goals that differ from the start in one depth, often the last, and in m.
+    #[test]
+    fn goals_of_other_depths() {
+        let mut random = Random::new(75);
+        let [mut more_or_less, mut one, mut last] = [0, 0, 0];
+        for _ in 0..4_000 {
+            let start = store(&mut random);
+            let goal = other_depths(&mut random, &start);
+            if start.m() != goal.m() {
+                more_or_less += 1;
+                continue;
+            }
+            let differ: Vec<usize> = (0..start.m())
+                .filter(|&shaft| start.depths[shaft] != goal.depths[shaft])
+                .collect();
+            one += usize::from(differ.len() == 1);
+            last += usize::from(differ == [start.m() - 1]);
+        }
+        assert!(more_or_less > 600, "{more_or_less} times");
+        assert!(
+            one > 2_000 && last > 800,
+            "{one} of one depth, {last} of the last"
+        );
     }
 
     /// Goals in which only the count of blanks differs from the start's.

@@ -2,6 +2,7 @@
 
 pub mod calls;
 pub mod checks;
+pub mod every;
 pub mod expected;
 pub mod guarded;
 pub mod inputs;

@@ -9,19 +9,20 @@ pub fn pair(caller: &mut Caller, random: &mut Random) {
     let start = inputs::store(random);
     let goal = inputs::goal(random, &start);
     let list_len = inputs::list_len(random, &start);
-    let (start_image, goal_image) = (image::write(&start), image::write(&goal));
+    let (start_image, goal_image) = (inputs::image(random, &start), inputs::image(random, &goal));
     checks::pair(caller, &start_image, &goal_image, list_len);
 
     let planned = caller.plan(&start_image, &goal_image, list_len);
     let list = &planned.space.content()[..planned.answer.count as usize];
-    checks::replay(caller, &start_image, list, start_image.len());
+    checks::replay(caller, &start_image, list, image::length(&start));
 }
 
 /// Damaged bytes through every call on bytes alone, in each place of an image. Rows of orders have a round of their own.
 pub fn damage(caller: &mut Caller, random: &mut Random) {
     let (bytes, others) = (inputs::damaged(random), inputs::damaged(random));
     let store = inputs::store(random);
-    let (image, list_len) = (image::write(&store), inputs::list_len(random, &store));
+    let image = inputs::image(random, &store);
+    let list_len = inputs::list_len(random, &store);
     checks::check(caller, &bytes);
     checks::check(caller, &image);
     checks::pair(caller, &bytes, &image, list_len);
@@ -36,12 +37,8 @@ pub fn damage(caller: &mut Caller, random: &mut Random) {
 pub fn replay(caller: &mut Caller, random: &mut Random) {
     let store = inputs::store(random);
     let list = inputs::list(random, &store);
-    let image = image::write(&store);
-    let out_len = match random.below(4) {
-        0 => random.below(image.len()),
-        1 => image.len() + random.from_to(1, 64),
-        _ => image.len(),
-    };
+    let image = inputs::image(random, &store);
+    let out_len = inputs::out_len(random, &store, &image);
     checks::replay(caller, &image, &list, out_len);
 }
 
@@ -51,9 +48,9 @@ pub fn list_lengths(caller: &mut Caller, random: &mut Random) {
     let mut goals = vec![random.reachable_goal(&start), inputs::goal(random, &start)];
     goals.extend(random.unreachable_goal(&start));
     let need = start.list_space();
-    let from = image::write(&start);
+    let from = inputs::image(random, &start);
     for goal in goals {
-        let to = image::write(&goal);
+        let to = inputs::image(random, &goal);
         let number = expected::reachable(&from, &to);
         let count = caller.plan(&from, &to, need).answer.count as usize;
         let around = need.saturating_sub(3)..need + 4;
@@ -63,14 +60,15 @@ pub fn list_lengths(caller: &mut Caller, random: &mut Random) {
     }
 }
 
-/// A replay into space of each length around the limit, by a list that is legal and by one that stops.
+/// A replay into space of each length around that of the image given and of the one written, by a list that is legal and by one that stops.
 pub fn out_lengths(caller: &mut Caller, random: &mut Random) {
     let store = inputs::store(random);
-    let image = image::write(&store);
+    let image = inputs::image(random, &store);
     let legal = inputs::legal_list(random, &store, 9);
     let stopped = [&legal[..], &[play::lift_byte(0, 0)]].concat();
-    let around = image.len().saturating_sub(3)..image.len() + 4;
-    for out_len in around.chain([0, random.below(image.len())]) {
+    let written = image::length(&store);
+    let around = written.saturating_sub(3)..image.len() + 4;
+    for out_len in around.chain([0, random.below(written)]) {
         checks::replay(caller, &image, &legal, out_len);
         checks::replay(caller, &image, &stopped, out_len);
     }
@@ -80,7 +78,7 @@ pub fn out_lengths(caller: &mut Caller, random: &mut Random) {
 pub fn orders(caller: &mut Caller, random: &mut Random) {
     let store = inputs::store(random);
     let orders = inputs::orders(random, &store);
-    checks::uncover(caller, &image::write(&store), &orders);
+    checks::uncover(caller, &inputs::image(random, &store), &orders);
     checks::uncover(caller, &inputs::damaged(random), &orders);
 }
 

@@ -1,8 +1,9 @@
 //! Blank carriers (document 02, 5/13): cases of each rule with the answers written out, the largest stores of blanks, and a single blank, which is answered
 //! like any other cassette.
 
+use halyard_model::image::{self, Form};
 use halyard_model::store::{BLANK, MOST_CASSETTE, MOST_DEPTH, MOST_SHAFTS};
-use halyard_model::{Random, Store, image, text};
+use halyard_model::{Random, Store, text};
 use halyard_outside::calls::{Answer, Caller, Order};
 use halyard_outside::inputs::{self, MOST_LIST_SPACE};
 use halyard_outside::{checks, guarded::GUARD};
@@ -51,10 +52,8 @@ fn order(store: &Store) -> (u8, u8) {
 #[test]
 fn only_blanks_stand_twice() {
     for number in 1..=BLANK {
-        let twice = Store {
-            depth: 3,
-            shafts: vec![vec![BLANK, number], vec![BLANK, number, BLANK]],
-        };
+        let shafts = vec![vec![BLANK, number], vec![BLANK, number, BLANK]];
+        let twice = Store::of_depth(3, shafts);
         let wanted = if number == BLANK { 0 } else { 5 };
         let answer = caller().check(&image::write(&twice));
         assert_eq!(answer, Answer::of(wanted, 0), "{number}");
@@ -240,10 +239,7 @@ fn no_blank_to_uncover() {
 
 /// 16 x 16 blanks.
 fn all_blanks() -> Store {
-    Store {
-        depth: MOST_DEPTH,
-        shafts: vec![vec![BLANK; MOST_DEPTH]; MOST_SHAFTS],
-    }
+    Store::of_depth(MOST_DEPTH, vec![vec![BLANK; MOST_DEPTH]; MOST_SHAFTS])
 }
 
 /// A cassette in place of another, by its shaft and row.
@@ -262,7 +258,7 @@ fn without_tops(mut store: Store, shafts: &[usize]) -> Store {
     store
 }
 
-/// "A store may now hold 256 cassettes", "the longest image has 268 bytes", "the program lends 18,432 bytes".
+/// "A store may now hold 256 cassettes", "the longest image has 268 bytes" (in form 0), "the program lends 18,432 bytes".
 #[test]
 fn all_256_blanks() {
     let image = image::write(&all_blanks());
@@ -297,7 +293,7 @@ fn defined(name: &str) -> usize {
 #[test]
 fn constants_of_the_header() {
     assert_eq!(defined("HALYARD_BLANK"), BLANK.into());
-    let image = image::write(&all_blanks());
+    let image = image::write_in(&all_blanks(), Form::Depths);
     assert_eq!(defined("HALYARD_IMAGE_MAX"), image.len());
     assert_eq!(defined("HALYARD_LIST_MAX"), all_blanks().list_space());
 }
@@ -350,10 +346,8 @@ fn blanks_but_for_a_few_and_two_slots() {
 #[test]
 fn orders_in_the_largest_store() {
     let others: Vec<u8> = (1..BLANK).collect();
-    let different = Store {
-        depth: MOST_DEPTH,
-        shafts: others.chunks(MOST_DEPTH).map(<[u8]>::to_vec).collect(),
-    };
+    let shafts = others.chunks(MOST_DEPTH).map(<[u8]>::to_vec).collect();
+    let different = Store::of_depth(MOST_DEPTH, shafts);
     let with_blanks = |places: &[(usize, usize)]| {
         let blanks: Vec<_> = places
             .iter()

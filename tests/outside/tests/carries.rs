@@ -152,6 +152,18 @@ fn blanks_are_counted_together() {
     assert_eq!(with_blanks_together(&printed), wanted);
 }
 
+/// Shafts of depth 3, 1 and 2: the second is full with one cassette. The same store in form 1 with equal depths is answered as in form 0.
+#[test]
+fn shafts_of_unequal_depth() {
+    let store = bytes("3x3,1,2: [1 2 3] [] [4 5]");
+    let full = "number 14\nlifts 2\n1 0 0\n2 0 0\n5 1 1\n3 1 1\n4 0 0\ntold 13 6\n";
+    assert_eq!(printed(&store, &[0x01, 0x20, 0x21, 0x02]), full);
+    let example = [0x12, 0x11, 0x00, 0x81, 0x08, 0x04, 0x20, 0x60];
+    let wanted = "number 0\nlifts 1\n1 0 0\n2 1 1\n3 0 0\ntold 2 1\n";
+    assert_eq!(printed(&example, &[0x01]), wanted);
+    assert_eq!(printed(&bytes("3x2: [1 2] [] [3]"), &[0x01]), wanted);
+}
+
 /// A lift that is refused counts nothing, nor does what comes after it; the single lifts go on past it.
 #[test]
 fn lists_that_stop() {
@@ -173,21 +185,32 @@ fn met(ends: &[Replayed], like: impl Fn(&Replayed) -> bool) -> usize {
     ends.iter().filter(|end| like(end)).count()
 }
 
-/// Stores of every shape, with lists that run through and lists that stop.
+/// Stores of every count of shafts and greatest depth, with equal depths and with any, in either form, with lists that run through and lists that stop.
 #[test]
 fn every_shape() {
     let mut random = Random::new(51);
     let mut ends = Vec::new();
     for (m, h) in (1..=MOST_SHAFTS).flat_map(|m| (1..=MOST_DEPTH).map(move |h| (m, h))) {
-        for _ in 0..5 {
-            let store = inputs::store_of_shape(&mut random, m, h);
+        for equal in [true, true, true, false, false] {
+            let depths = if equal {
+                vec![h; m]
+            } else {
+                random.depths(m, h)
+            };
+            let store = inputs::store_of(&mut random, &depths);
             let list = inputs::list(&mut random, &store);
-            ends.extend(compare(&image::write(&store), &list));
+            ends.extend(compare(&inputs::image(&mut random, &store), &list));
         }
     }
     for number in [0, 11, 13, 14] {
         let times = met(&ends, |end| end.number == number && end.count > 0);
         assert!(times >= 20, "{number} after some lifts: {times} times");
+    }
+    for number in [0, 14] {
+        let times = met(&ends, |end| {
+            end.number == number && end.count > 0 && !end.store.equal_depths()
+        });
+        assert!(times >= 20, "{number}, unequal depths: {times} times");
     }
     let nothing_done = met(&ends, |end| end.count == 0);
     assert!(nothing_done >= 20, "no lift done: {nothing_done} times");

@@ -1,68 +1,12 @@
 //! Rows of orders (document 02, 1/13): every number in every store of the shapes with at most six slots, with every count of blanks, against a full search
 //! for the fewest lifts, and random rows.
 
-use halyard_model::search::{Lifts, every_store};
-use halyard_model::store::{BLANK, MOST_CASSETTE};
-use halyard_model::{Random, Store, image, text, uncover};
+use halyard_model::{Random, image, text};
 use halyard_outside::calls::{Answer, Caller, Order, c};
-use halyard_outside::{checks, expected, guarded::GUARD, rounds};
+use halyard_outside::{checks, every, guarded::GUARD, rounds};
 use std::ptr::null_mut;
 
 const SLOTS: usize = 6;
-
-/// Names that no slot shows: 0, the numbers just past what a slot can hold, the greatest, the first that is absent, and the last.
-fn absent(cassettes: &[u8]) -> Vec<u16> {
-    let past = MOST_CASSETTE as u16 + 1;
-    let mut free = (1..=BLANK).filter(|cassette| !cassettes.contains(cassette));
-    let mut absent = vec![0, past, past + 1, 65_535];
-    absent.extend(free.next().map(u16::from));
-    absent.extend(free.next_back().map(u16::from));
-    absent
-}
-
-/// Every store with these cassettes: a row that names each of them, each twice, and some that are absent, answered as the search has it. The rule that the
-/// other tests go by agrees with the search too.
-fn compare_all(caller: &mut Caller, random: &mut Random, m: usize, h: usize, cassettes: &[u8]) {
-    let stores = every_store(m, h, cassettes);
-    let lifts = Lifts::between(&stores);
-    let mut there: Vec<u16> = cassettes.iter().copied().map(u16::from).collect();
-    there.sort_unstable();
-    there.dedup();
-    let fewest: Vec<Vec<Option<usize>>> = there
-        .iter()
-        .map(|&cassette| lifts.fewest(|store| uncover::uncovered(store, cassette)))
-        .collect();
-    for (at, store) in stores.iter().enumerate() {
-        let found = fewest.iter().map(|fewest| fewest[at].ok_or(17));
-        let mut answers: Vec<_> = there.iter().copied().zip(found).collect();
-        answers.extend(absent(cassettes).into_iter().map(|name| (name, Err(16))));
-        answers.extend_from_within(..there.len());
-        compare_row(caller, random, store, &answers);
-    }
-}
-
-fn compare_row(
-    caller: &mut Caller,
-    random: &mut Random,
-    store: &Store,
-    answers: &[(u16, Result<usize, u8>)],
-) {
-    let mut orders = Vec::new();
-    let mut row = Vec::new();
-    for &(name, answer) in answers {
-        assert_eq!(uncover::uncover(store, name), answer, "{name} of {store:?}");
-        let order = Order::naming(name, random);
-        orders.push(order);
-        row.push(expected::answered(order, answer));
-    }
-    checks::row_is(
-        caller,
-        &image::write(store),
-        &orders,
-        Answer::of(0, 0),
-        &row,
-    );
-}
 
 #[test]
 fn every_cassette_of_every_small_store() {
@@ -73,7 +17,7 @@ fn every_cassette_of_every_small_store() {
             for n in 0..=m * h {
                 for blanks in 0..=n {
                     let cassettes = random.cassettes_with_blanks(n, blanks);
-                    compare_all(&mut caller, &mut random, m, h, &cassettes);
+                    every::orders(&mut caller, &mut random, &vec![h; m], &cassettes);
                 }
             }
         }
@@ -90,6 +34,7 @@ fn random_rows() {
     for number in [0, 1, 2, 3, 4, 5, 7] {
         assert!(caller.answers_with(number) > 100, "{number} is rare");
     }
+    assert!(caller.unequal_with(0) > 1_000, "unequal depths are rare");
     for number in [0, 16, 17] {
         assert!(caller.orders_with(number) > 10_000, "{number} is rare");
     }
@@ -187,7 +132,8 @@ fn refused_images() {
         .collect();
     for (bytes, number) in [
         (&[][..], 2),
-        (&[0x10], 1),
+        (&[0x20], 1),
+        (&[0x10], 2),
         (&image[..image.len() - 1], 2),
         (&[&image[..], &[0]].concat(), 7),
     ] {

@@ -1,7 +1,8 @@
-//! Random stores up to 16 x 16, damaged images, lists and lent lengths, from fixed seeds, and some inputs in full.
+//! Random stores up to 16 x 16, of equal and unequal depths, in either form of image, damaged images, lists and lent lengths, from fixed seeds, and some inputs in full.
 
-use halyard_model::store::BLANK;
-use halyard_model::{Random, Store, image};
+use halyard_model::image::{self, Form};
+use halyard_model::store::{BLANK, MOST_DEPTH};
+use halyard_model::{Random, Store};
 use halyard_outside::calls::{Answer, Caller};
 use halyard_outside::{checks, guarded::GUARD, inputs, rounds};
 
@@ -22,22 +23,53 @@ fn met(caller: &Caller, numbers: &[u8], least: u64) {
     }
 }
 
+/// Each of these numbers was answered often enough where the depths are unequal.
+fn met_unequal(caller: &Caller, numbers: &[u8], least: u64) {
+    for &number in numbers {
+        let answers = caller.unequal_with(number);
+        assert!(answers >= least, "{number}, unequal: {answers} times");
+    }
+}
+
+/// Each of these numbers was answered often enough where start and goal came in two forms.
+fn met_mixed(caller: &Caller, numbers: &[u8], least: u64) {
+    for &number in numbers {
+        let answers = caller.mixed_with(number);
+        assert!(answers >= least, "{number}, mixed forms: {answers} times");
+    }
+}
+
+/// Images were written in another form than they came in, also into less than those have.
+fn met_rewritten(caller: &Caller, least: u64) {
+    let (rewritten, shortened) = (caller.rewritten(), caller.shortened());
+    assert!(rewritten >= least, "{rewritten} images were rewritten");
+    assert!(shortened >= least / 2, "{shortened} into less");
+}
+
 #[test]
 fn pairs() {
     let caller = rounds(21, 20_000, rounds::pair);
     met(&caller, &[0, 8, 9, 10, 15], 500);
+    met_unequal(&caller, &[0, 8, 9, 10, 15], 500);
+    met_mixed(&caller, &[0, 8, 9, 10, 15], 500);
+    met_rewritten(&caller, 1_000);
 }
 
 #[test]
 fn damage() {
     let caller = rounds(22, 10_000, rounds::damage);
     met(&caller, &[0, 1, 2, 3, 4, 5, 7, 10], 500);
+    met_unequal(&caller, &[0, 1, 2, 3, 4, 5, 7, 8], 100);
+    met_mixed(&caller, &[2, 3, 4, 5, 7, 8], 100);
+    met_rewritten(&caller, 20);
 }
 
 #[test]
 fn replays() {
     let caller = rounds(23, 20_000, rounds::replay);
     met(&caller, &[0, 10, 11, 13, 14], 100);
+    met_unequal(&caller, &[0, 10, 11, 13, 14], 100);
+    met_rewritten(&caller, 1_000);
 }
 
 #[test]
@@ -45,12 +77,43 @@ fn list_lengths() {
     let caller = rounds(24, 1_000, rounds::list_lengths);
     met(&caller, &[0, 10, 15], 1_000);
     met(&caller, &[8, 9], 300);
+    met_unequal(&caller, &[0, 10, 15], 1_000);
+    met_mixed(&caller, &[0, 10, 15], 500);
 }
 
 #[test]
 fn out_lengths() {
     let caller = rounds(25, 1_000, rounds::out_lengths);
     met(&caller, &[0, 10, 11], 1_000);
+    met_unequal(&caller, &[0, 10, 11], 500);
+    met_rewritten(&caller, 1_000);
+}
+
+/// Every lent length for a start with such cassettes: for goals within reach, out of it, of other cassettes and of another depth, and for a replay.
+fn every_length_from(
+    caller: &mut Caller,
+    random: &mut Random,
+    depths: &[usize],
+    cassettes: Vec<u8>,
+) {
+    let start = random.in_shafts(depths, cassettes.clone());
+    let from = inputs::image(random, &start);
+    let fewer = random.cassettes(start.n() - 1);
+    let deeper = [&depths[..depths.len() - 1], &[5]].concat();
+    let mut goals = vec![(random.reachable_goal(&start), 0)];
+    goals.extend(random.unreachable_goal(&start).map(|goal| (goal, 15)));
+    goals.push((random.in_shafts(depths, fewer), 9));
+    goals.push((random.in_shafts(&deeper, cassettes), 8));
+    for (goal, number) in goals {
+        let to = inputs::image(random, &goal);
+        for list_len in 0..start.list_space() + 20 {
+            checks::plan(caller, &from, &to, list_len, number);
+        }
+    }
+    let list = inputs::legal_list(random, &start, 5);
+    for out_len in 0..from.len() + 20 {
+        checks::replay(caller, &from, &list, out_len);
+    }
 }
 
 /// Every lent length from none to a little more than the limit.
@@ -58,46 +121,46 @@ fn out_lengths() {
 fn every_length() {
     let mut random = Random::new(26);
     let mut caller = Caller::new(26, GUARD);
-    for (m, h, n, blanks) in [
-        (1, 3, 2, 0),
-        (1, 3, 3, 2),
-        (2, 3, 4, 0),
-        (2, 3, 4, 3),
-        (3, 2, 5, 0),
-        (3, 2, 5, 5),
-        (3, 3, 6, 1),
-        (3, 3, 6, 4),
-        (4, 2, 3, 0),
-        (4, 2, 6, 2),
+    for (depths, n, blanks) in [
+        (&[3][..], 2, 0),
+        (&[3], 3, 2),
+        (&[3, 3], 4, 0),
+        (&[3, 3], 4, 3),
+        (&[2; 3], 5, 0),
+        (&[2; 3], 5, 5),
+        (&[3; 3], 6, 1),
+        (&[3; 3], 6, 4),
+        (&[2; 4], 3, 0),
+        (&[2; 4], 6, 2),
+        (&[4, 1], 4, 0),
+        (&[1, 3], 3, 2),
+        (&[3, 2, 2], 5, 0),
+        (&[1, 1, 4], 5, 3),
+        (&[2, 3, 1, 2], 6, 2),
     ] {
-        let start = random.store_with_blanks(m, h, n, blanks);
-        let from = image::write(&start);
-        let mut goals = vec![(random.reachable_goal(&start), 0)];
-        goals.extend(random.unreachable_goal(&start).map(|goal| (goal, 15)));
-        goals.push((random.store_with_blanks(m, h, n - 1, 0), 9));
-        goals.push((random.in_shape(m + 1, h, &start), 8));
-        for (goal, number) in goals {
-            let to = image::write(&goal);
-            for list_len in 0..start.list_space() + 20 {
-                checks::plan(&mut caller, &from, &to, list_len, number);
-            }
-        }
-        let list = inputs::legal_list(&mut random, &start, 5);
-        for out_len in 0..from.len() + 20 {
-            checks::replay(&mut caller, &from, &list, out_len);
-        }
+        let cassettes = random.cassettes_with_blanks(n, blanks);
+        every_length_from(&mut caller, &mut random, depths, cassettes);
     }
     met(&caller, &[0, 8, 9, 10, 15], 100);
+    met_unequal(&caller, &[0, 8, 9, 10, 15], 100);
+    met_mixed(&caller, &[0, 8, 9, 10, 15], 20);
 }
 
-/// Images of small stores and of the largest, with and without blanks.
+/// Images of small stores and of the largest, with and without blanks, with unequal depths, and in form 1 with equal ones.
 fn some_images(random: &mut Random) -> Vec<Vec<u8>> {
     let different = [(1, 1, 0), (1, 1, 1), (3, 2, 3), (5, 7, 20), (16, 16, 255)];
     let blank = [(2, 2, 3, 2), (5, 7, 30, 11), (16, 16, 256, 128)];
     let mut stores: Vec<Store> = Vec::new();
     stores.extend(different.map(|(m, h, n)| random.store(m, h, n)));
     stores.extend(blank.map(|(m, h, n, blanks)| random.store_with_blanks(m, h, n, blanks)));
-    stores.iter().map(image::write).collect()
+    let form_1 = stores.iter().map(|it| image::write_in(it, Form::Depths));
+    let mut images: Vec<Vec<u8>> = stores.iter().map(image::write).chain(form_1).collect();
+    let most = [vec![MOST_DEPTH; 15], vec![15]].concat();
+    for (depths, n) in [(vec![3, 1], 3), (vec![1, 7, 2, 16], 20), (most, 255)] {
+        let cassettes = random.cassettes_with_blanks(n, n / 2);
+        images.push(image::write(&random.in_shafts(&depths, cassettes)));
+    }
+    images
 }
 
 /// Every prefix of an image, and images with many bytes after them.
@@ -134,10 +197,8 @@ fn every_short_image() {
 fn check_of_a_full_store(cassettes: &[u8], last: u8) -> Answer {
     let cassettes = [cassettes, &[last]].concat();
     assert_eq!(cassettes.len(), 256);
-    let full = Store {
-        depth: 16,
-        shafts: cassettes.chunks(16).map(<[u8]>::to_vec).collect(),
-    };
+    let shafts = cassettes.chunks(16).map(<[u8]>::to_vec).collect();
+    let full = Store::of_depth(16, shafts);
     Caller::new(33, GUARD).check(&image::write(&full))
 }
 

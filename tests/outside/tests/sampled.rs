@@ -82,12 +82,49 @@ fn shapes_of_seven_to_sixteen_slots_with_blanks() {
     }
 }
 
+/// Unequal depths of seven to sixteen slots, with two to six shafts: any, and all of depth 1 but for one. Different cassettes, or two blanks or more.
+#[test]
+fn unequal_depths_of_seven_to_sixteen_slots() {
+    let mut caller = Caller::new(16, GUARD);
+    let mut random = Random::new(16);
+    let mut searches = 0;
+    for _ in 0..700 {
+        let depths = unequal_depths(&mut random);
+        let slots: usize = depths.iter().sum();
+        let n = slots - random.below(slots.min(8));
+        let blanks = *random.one_of(&[0, 2, n / 2, n - 3]);
+        let cassettes = random.cassettes_with_blanks(n, blanks.min(n));
+        let start = random.in_shafts(&depths, cassettes);
+        let ended = compare_from_a_start(&mut caller, &mut random, &start);
+        searches += usize::from(ended);
+    }
+    assert!(searches > 250, "{searches} searches ended");
+    for number in [0, 15] {
+        assert!(caller.unequal_with(number) > 10_000, "{number} is rare");
+    }
+}
+
+fn unequal_depths(random: &mut Random) -> Vec<usize> {
+    loop {
+        let m = random.from_to(2, 6);
+        let mut depths = vec![1; m];
+        if random.below(3) > 0 {
+            depths = random.depths(m, 9);
+        }
+        depths[random.below(m)] = random.from_to(1, 12);
+        let slots: usize = depths.iter().sum();
+        if (7..=16).contains(&slots) && depths.iter().any(|&it| it != depths[0]) {
+            return depths;
+        }
+    }
+}
+
 /// Every goal of nine cassettes in three shafts of four, where the bottom row never changes: three of them and blanks, one of which is in that row.
 #[test]
 fn every_goal_of_six_blanks_and_three_others() {
     let mut caller = Caller::new(14, GUARD);
     let start = text::read("3x4: [1 b b 2] [b b b] [3 b]").unwrap();
-    let goals = every_store(3, 4, &start.cassettes());
+    let goals = every_store(&start.depths, &start.cassettes());
     assert_eq!(goals.len(), 5_040);
     let search = Search::all(&start, MOST);
     assert!(search.ended());
@@ -101,10 +138,7 @@ fn every_goal_of_six_blanks_and_three_others() {
 fn blanks_but_for_a_few_in_sixteen_shafts_of_sixteen() {
     let mut caller = Caller::new(15, GUARD);
     let mut random = Random::new(15);
-    let mut start = Store {
-        depth: 16,
-        shafts: vec![vec![BLANK; 16]; 16],
-    };
+    let mut start = Store::of_depth(16, vec![vec![BLANK; 16]; 16]);
     for (shaft, row, cassette) in [(0, 16, 1), (5, 16, 2), (9, 15, 3)] {
         start.shafts[shaft][row - 1] = cassette;
     }
@@ -136,7 +170,7 @@ fn every_goal_is_reached(start: &str, count: usize) {
     let mut caller = Caller::new(12, GUARD);
     let start = text::read(start).unwrap();
     let from = image::write(&start);
-    let goals = every_store(3, 4, &start.cassettes());
+    let goals = every_store(&start.depths, &start.cassettes());
     assert_eq!(goals.len(), count);
     for goal in goals {
         let to = image::write(&goal);

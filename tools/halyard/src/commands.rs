@@ -19,6 +19,8 @@ halyard: stores as text and as images, and lists played for a person to see
   halyard depth STORE CASSETTE…    draw a store, and say what is to be lifted away from each cassette
 
 TEXT is such as '3x2: [1 2] [b] [3 b]': shafts, depth, the cassettes of each shaft bottom first.
+Where the depths are unequal each shaft has its own: '3x3,2,2: [1 2 3] [4] [5]'. An image is written
+in form 0 where all depths are equal, in form 1 where they are not, and read in both forms.
 b is a blank carrier, which may stand more than once; its cassette number, {BLANK}, says the same.
 STORE, START and GOAL are an image file or TEXT. LIST is a file that has what the program 'plan'
 printed, or '-' for standard input; with --bytes it has a byte for each lift, as the C calls write it.
@@ -122,21 +124,22 @@ fn read_list(file: &str, bytes: bool) -> Result<Vec<u8>, String> {
     text::read_list(&String::from_utf8_lossy(&content))
 }
 
-/// What a number says of an image, of a lift or of an order.
+/// What a number says of an image, of two stores, of a lift or of an order.
 pub fn meaning(number: u8) -> &'static str {
     match number {
-        1 => "the form is not 0",
+        1 => "the form is neither 0 nor 1",
         2 => "the image ends before its last field",
-        3 => "a height above the depth",
+        3 => "a height above the depth of its shaft",
         4 => "a cassette number 0",
         5 => "a cassette that stood earlier and is no blank",
         7 => "a padding bit set, or bytes after the padding",
+        8 => "the two stores differ in their count of shafts or in a depth",
         11 => "a shaft that is not there, or one shaft twice",
         13 => "the shaft left is empty",
-        14 => "the shaft entered is full",
+        14 => "the shaft entered is full, by its own depth",
         16 => "it is not in the store",
         17 => "no list of lifts uncovers it",
-        _ => "which no image, no lift and no order gets",
+        _ => "which no image, no two stores, no lift and no order get here",
     }
 }
 
@@ -183,9 +186,73 @@ mod tests {
 
     #[test]
     fn a_refused_image() {
-        let file = Scratch::holding("refused", &[0x01, 0x11]);
-        let wrong = run(&["show", &file.0]).unwrap_err();
-        assert!(wrong.ends_with("refused 2, the image ends before its last field"));
+        for (name, image, said) in [
+            (
+                "cut",
+                &[0x01, 0x11][..],
+                "refused 2, the image ends before its last field",
+            ),
+            ("form", &[0x21], "refused 1, the form is neither 0 nor 1"),
+            (
+                "height",
+                &[0x11, 0xF0, 0x00, 0x80],
+                "refused 3, a height above the depth of its shaft",
+            ),
+        ] {
+            let file = Scratch::holding(name, image);
+            let wrong = run(&["show", &file.0]).unwrap_err();
+            assert!(wrong.ends_with(said), "{wrong}");
+        }
+    }
+
+    #[test]
+    fn unequal_depths() {
+        let unequal = "2x3,1: [1 2] [3]";
+        assert_eq!(prints(&["image", unequal]), "11 21 00 81 00 40 c0\n");
+        let file = Scratch::holding("unequal", &[0x11, 0x21, 0x00, 0x81, 0x00, 0x40, 0xC0]);
+        assert_eq!(prints(&["text", &file.0]), format!("{unequal}\n"));
+        let wrong = run(&["image", "2x3,1: [1] [2 3]"]).unwrap_err();
+        assert_eq!(wrong, "shaft 1 is higher than its depth, 1");
+    }
+
+    /// It prints as the same store in form 0 does, and an image of it is written in that form.
+    #[test]
+    fn form_1_with_equal_depths() {
+        let image = [0x12, 0x11, 0x00, 0x81, 0x08, 0x04, 0x20, 0x60];
+        let file = Scratch::holding("form-1", &image);
+        assert_eq!(prints(&["text", &file.0]), format!("{EXAMPLE}\n"));
+        assert_eq!(prints(&["show", &file.0]), prints(&["show", EXAMPLE]));
+    }
+
+    #[test]
+    fn a_lift_onto_a_full_short_shaft() {
+        let list = Scratch::holding("short", b"lifts 2\n0>1\n0>1\n");
+        let said = run(&["play", "2x3,1: [1 2 3] []", &list.0]).unwrap();
+        let wrong = "lift 2 of 2, 0>1, is refused 14, the shaft entered is full, by its own depth, \
+                     in 2x3,1: [1 2] [3]";
+        assert_eq!(said.wrong.as_deref(), Some(wrong));
+        assert!(
+            said.text
+                .contains("row  2 |    2 |\nrow  1 |    1 |   *3 |\n")
+        );
+    }
+
+    /// The goal has the depths of the start, or no list leads there.
+    #[test]
+    fn a_goal_of_other_depths() {
+        let list = Scratch::holding("depths", b"lifts 1\n0>1\n");
+        let start = "2x3,1: [1 2 3] []";
+        let said = prints(&["leads", start, "2x3,1: [1 2] [3]", &list.0]);
+        assert_eq!(said, "1 lifts lead to the goal\n");
+        let wrong = "refused 8, the two stores differ in their count of shafts or in a depth";
+        for goal in [
+            "2x3: [1 2] [3]",
+            "2x3,2: [1 2] [3]",
+            "3x3,1,1: [1 2] [3] []",
+        ] {
+            let said = run(&["leads", start, goal, &list.0]);
+            assert_eq!(said, Err(wrong.to_string()), "{goal}");
+        }
     }
 
     #[test]

@@ -70,18 +70,35 @@ fn above(store: &Store, cassette: u16) -> String {
     words.join(", ")
 }
 
-/// How many stand on a cassette, and how many the other shafts have room for; of a number that stands more than once, under which row.
+/// How many stand on a cassette, and how many the other shafts have room for; of a number that stands more than once, under which rows.
 fn no_room(store: &Store, cassette: u16) -> String {
     let places: Vec<Place> = uncover::places(store, cassette).collect();
     let [place] = places[..] else {
-        return format!("all {} are below row {}", places.len(), store.floor());
+        return format!(
+            "all {} are below {}",
+            places.len(),
+            lowest_rows(store, &places)
+        );
     };
     let above = uncover::above(store, place);
-    let elsewhere = store.e() - (store.depth - store.shafts[place.0].len());
+    let elsewhere = store.e() - store.room(place.0);
     match store.m() {
         1 => format!("{above} on it, and no other shaft"),
         _ => format!("{above} on it, and room for {elsewhere} on the other shafts"),
     }
+}
+
+/// The lowest row that can be uncovered in the shafts of these places, or, where they differ, that of each shaft.
+fn lowest_rows(store: &Store, places: &[Place]) -> String {
+    let mut shafts: Vec<usize> = places.iter().map(|&(shaft, _)| shaft).collect();
+    shafts.dedup();
+    let lowest = store.floor(shafts[0]);
+    if shafts.iter().all(|&shaft| store.floor(shaft) == lowest) {
+        return format!("row {lowest}");
+    }
+    let row = |&shaft: &usize| format!("row {} of shaft {shaft}", store.floor(shaft));
+    let rows: Vec<String> = shafts.iter().map(row).collect();
+    rows.join(", ")
 }
 
 #[cfg(test)]
@@ -161,6 +178,48 @@ b is a blank, cassette number {BLANK}
         }
         let said = run(&text::read("1x1: [1]").unwrap(), &["b"]).unwrap();
         assert!(said.text.ends_with("\n    b: 16, it is not in the store\n"));
+    }
+
+    /// With two empty slots row 2 of the shaft of depth 4 is the lowest to be uncovered, row 3 of the one of depth 5, and any of the others.
+    #[test]
+    fn shafts_of_unequal_depth() {
+        let store = text::read("4x4,5,2,1: [1 2 3 4] [b 6 b 7] [8 9] []").unwrap();
+        let said = run(&store, &["1", "2", "8", "b"]).unwrap();
+        let shown = format!(
+            "\
+row  5        |      |
+row  4 |    4 |    7 |
+row  3 |    3 |   *b |
+row  2 |   *2 |    6 |    9 |
+row  1 |   *1 |    b |   *8 |      |
+       +------+------+------+------+
+shaft       0      1      2      3
+b is a blank, cassette number {BLANK}
+
+    1: 17, no list of lifts uncovers it: 3 on it, and room for 2 on the other shafts
+    2: 2 lifts, of 4, 3
+    8: 1 lift, of 9
+    b: 1 lift, of 7, the nearest of 2
+"
+        );
+        assert_eq!(said.text, shown);
+        assert_eq!(said.wrong.as_deref(), Some("1 of 4 orders fail"));
+    }
+
+    /// Blanks in two shafts with other floors, and in two shafts with the same one beside a shorter one.
+    #[test]
+    fn blanks_below_the_floors_of_their_shafts() {
+        for (store, rows) in [
+            (
+                "3x3,4,1: [b 1 2] [b b 3 4] []",
+                "all 3 are below row 2 of shaft 0, row 3 of shaft 1",
+            ),
+            ("3x3,3,1: [b 1 2] [b 3 4] []", "all 2 are below row 2"),
+        ] {
+            let said = run(&text::read(store).unwrap(), &["b"]).unwrap();
+            let wanted = format!("\n    b: 17, no list of lifts uncovers it: {rows}\n");
+            assert!(said.text.ends_with(&wanted), "{}", said.text);
+        }
     }
 
     #[test]

@@ -99,6 +99,9 @@ fn stopped(end: &Replayed, list: &[u8]) -> String {
 
 /// Whether a list leads from start to goal, or what it does instead.
 pub fn leads(start: &Store, goal: &Store, list: &[u8]) -> Result<String, String> {
+    if start.depths != goal.depths {
+        return Err(format!("refused 8, {}", meaning(8)));
+    }
     let end = play::replay(start, list);
     if end.number != 0 {
         return Err(stopped(&end, list));
