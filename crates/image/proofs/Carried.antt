@@ -1,8 +1,8 @@
 -- The round trips, carried to the two functions by their contracts: what `write` left is read by `read` as the same store, and what `read` accepted
 -- is written by `write` as the same bytes, but for a form 1 image with equal depths (document 02, 7/13).
 use mathlib.Core.List.{List, _++_}
-use mathlib.Core.Path.{_≡_, refl, sym, ap, _∙_}
-use Prim.Native.Nat.{ℕ, zero, suc, _≤_, _<_}
+use mathlib.Core.Path.{_≡_, sym, ap, _∙_}
+use Prim.Native.Nat.{ℕ, _≤_, _<_}
 use lib.ListN.{length, getD, take, drop}
 use lib.Seq.{take-at}
 use Rattle.marks.proofs.Faulted.{first-none}

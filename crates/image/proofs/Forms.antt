@@ -3,7 +3,7 @@ use borrow.Author.Tests.{eqb-true, eq-eqb}
 use mathlib.Core.Bool.{Bool, cond}
 use mathlib.Core.Logic.{inl, inr}
 use mathlib.Core.Path.{_≡_, ap}
-use Prim.Native.Nat.{ℕ, _≤_}
+use Prim.Native.Nat.{_≤_}
 use native.Mathlib.Omega.{arith}
 use lib.Dec.{eqb}
 use Rattle.stacks.specs.Deciding.{Decides}

@@ -1,11 +1,9 @@
 -- The tests say whether lists and stores are equal and whether the rule holds; so for comparable stores "reachable" is decided.
-use borrow.Author.Tests.{eqb-true, eq-eqb}
-use mathlib.Core.Bool.{Bool, true, _&&_}
-use mathlib.Core.List.{List, [], _∷_}
+use mathlib.Core.Bool.{Bool, true}
+use mathlib.Core.List.{List}
 use mathlib.Core.Logic.{_⊎_}
-use mathlib.Core.Path.{_≡_, refl, sym, subst}
+use mathlib.Core.Path.{_≡_, refl, subst}
 use Prim.Native.Nat.{ℕ, zero, suc}
-use lib.Dec.{eqb}
 use Rattle.store.specs.declared.Store.{Store}
 use Rattle.store.specs.Slots.{upward}
 use Rattle.in_place.specs.InPlace.{allBelow}

@@ -4,7 +4,6 @@ use Prim.Native.Nat.{ℕ, _-_, _*_, _≤_, _<_}
 use native.Mathlib.Nat.{le-antisymm}
 use native.Mathlib.Decide.{decLt}
 use native.Mathlib.Omega.{arith}
-use Rattle.stacks.specs.Count.{sum, greatest}
 use Rattle.stacks.proofs.Sums.{sum-equal, sum-same, term-le-greatest, greatest-le}
 use Rattle.depths.specs.Depths.{spaceFor}
 use Rattle.store.specs.declared.Store.{Store}

@@ -1,15 +1,14 @@
 -- `write_head` meets its contract: two fields of 4 bits or three, one after the other.
 use borrow.Author.Needs.{needs}
 use mathlib.Core.Bool.{Bool, not}
-use mathlib.Core.Path.{_≡_, ap, _∙_}
-use Prim.Native.Nat.{_+_, _-_}
+use mathlib.Core.Path.{ap}
+use Prim.Native.Nat.{_-_}
 use native.Mathlib.Omega.{arith}
-use lib.ListN.{length}
 use Rattle.bits.proofs.Widths.{length-bits}
 use Rattle.pens.specs.Pens.{noBits, Pushes}
 use Rattle.bits.specs.Fields.{bits}
 use Rattle.store.specs.Slots.{depth}
-use Rattle.image.specs.Image.{formWidth, frameWidth, fieldIf, headBits}
+use Rattle.image.specs.Image.{formWidth, frameWidth}
 use Rattle.image.proofs.Lengths.{widthIf, length-if, length-head}
 use Rattle.image_parts.proofs.PartLaws.{head-written}
 use Rattle.image_parts.proofs.write_head.Statement.{statement}

@@ -1,6 +1,6 @@
 -- `depth_in_place` meets its contract: the depth in range where the shaft is below m, else none.
 use borrow.Author.Needs.{needs}
-use mathlib.Core.Path.{_≡_, sym, ap, _∙_}
+use mathlib.Core.Path.{sym, ap, _∙_}
 use lib.Dec.{eqb}
 use Prim.Native.Nat.{ℕ}
 use Rattle.in_place.specs.InPlace.{inRange}
