@@ -233,7 +233,7 @@ mod tests {
         assert_eq!(said.wrong.as_deref(), Some(wrong));
         assert!(
             said.text
-                .contains("row  2 |    2 |\nrow  1 |    1 |   *3 |\n")
+                .contains("row  2 |    2 |######|\nrow  1 |    1 |   *3 |\n")
         );
     }
 

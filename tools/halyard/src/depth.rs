@@ -187,14 +187,15 @@ b is a blank, cassette number {BLANK}
         let said = run(&store, &["1", "2", "8", "b"]).unwrap();
         let shown = format!(
             "\
-row  5        |      |
-row  4 |    4 |    7 |
-row  3 |    3 |   *b |
-row  2 |   *2 |    6 |    9 |
+row  5 |######|      |######|######|
+row  4 |    4 |    7 |######|######|
+row  3 |    3 |   *b |######|######|
+row  2 |   *2 |    6 |    9 |######|
 row  1 |   *1 |    b |   *8 |      |
        +------+------+------+------+
 shaft       0      1      2      3
 b is a blank, cassette number {BLANK}
+###### is no slot: the shaft ends below
 
     1: 17, no list of lifts uncovers it: 3 on it, and room for 2 on the other shafts
     2: 2 lifts, of 4, 3

@@ -5,7 +5,8 @@ use halyard_model::store::BLANK;
 use halyard_model::text::{self, BLANK_WORD};
 use halyard_model::uncover::Place;
 
-/// The rows from the top of the deepest shaft down, the shafts' numbers below, and what a blank is drawn as, if there is one. The places `marked` have a star.
+/// The rows from the top of the deepest shaft down, the shafts' numbers below, and what a blank and a place with no slot are drawn as, if there is one. The
+/// places `marked` have a star.
 pub fn store(store: &Store, marked: &[Place]) -> String {
     let mut lines: Vec<String> = (1..=store.deepest())
         .rev()
@@ -19,30 +20,33 @@ pub fn store(store: &Store, marked: &[Place]) -> String {
     if store.blanks() > 0 {
         lines.push(format!("{BLANK_WORD} is a blank, cassette number {BLANK}"));
     }
+    if !store.equal_depths() {
+        lines.push(format!("{NO_SLOT} is no slot: the shaft ends below"));
+    }
     lines.join("\n") + "\n"
 }
 
-/// The slots of a row, each between walls; where a shaft ends below the row there is no slot.
+/// What stands where a shaft has ended.
+const NO_SLOT: &str = "######";
+
 fn draw_row(store: &Store, row: usize, marked: &[Place]) -> String {
-    let there = |shaft: usize| store.depths.get(shaft).is_some_and(|&depth| row <= depth);
-    let wall = |there: bool| if there { "|" } else { " " };
     let slots: String = (0..store.m())
-        .map(|shaft| {
-            let slot = draw_slot(store, (shaft, row), marked);
-            format!("{slot:>5} {}", wall(there(shaft) || there(shaft + 1)))
-        })
+        .map(|shaft| draw_slot(store, (shaft, row), marked) + "|")
         .collect();
-    let line = format!("row {row:>2} {}{slots}", wall(there(0)));
-    line.trim_end().to_string()
+    format!("row {row:>2} |{slots}")
 }
 
 fn draw_slot(store: &Store, place: Place, marked: &[Place]) -> String {
     let (shaft, row) = place;
+    if store.depths[shaft] < row {
+        return NO_SLOT.into();
+    }
     let star = if marked.contains(&place) { "*" } else { "" };
-    match store.shafts[shaft].get(row - 1) {
+    let shown = match store.shafts[shaft].get(row - 1) {
         Some(&cassette) => format!("{star}{}", text::write_cassette(cassette)),
         None => String::new(),
-    }
+    };
+    format!("{shown:>5} ")
 }
 
 #[cfg(test)]
@@ -63,31 +67,36 @@ shaft       0      1      2
         assert_eq!(super::store(&store, &[]), drawn.replace('*', " "));
     }
 
-    /// Each shaft has walls up to its own depth.
+    /// Each shaft has slots up to its own depth, also between two deeper ones.
     #[test]
     fn shafts_of_unequal_depth() {
         let store = text::read("5x2,4,1,1,3: [1 2] [3 4 5] [6] [] [7]").unwrap();
         let drawn = "\
-row  4        |      |
-row  3        |    5 |             |      |
-row  2 |    2 |    4 |             |      |
+row  4 |######|      |######|######|######|
+row  3 |######|    5 |######|######|      |
+row  2 |    2 |    4 |######|######|      |
 row  1 |    1 |    3 |    6 |      |   *7 |
        +------+------+------+------+------+
 shaft       0      1      2      3      4
+###### is no slot: the shaft ends below
 ";
         assert_eq!(super::store(&store, &[(4, 1)]), drawn);
     }
 
-    /// A short shaft at each end, and a full one in the middle.
+    /// A short shaft between two deeper ones that are empty above it.
     #[test]
-    fn short_shafts_at_the_ends() {
-        let store = text::read("3x1,2,1: [] [1 2] [3]").unwrap();
-        let drawn = "\
-row  2        |    2 |
-row  1 |      |    1 |    3 |
+    fn a_short_shaft_between_empty_slots() {
+        let store = text::read("3x2,1,2: [] [b] [3]").unwrap();
+        let drawn = format!(
+            "\
+row  2 |      |######|      |
+row  1 |      |    b |    3 |
        +------+------+------+
 shaft       0      1      2
-";
+b is a blank, cassette number {BLANK}
+###### is no slot: the shaft ends below
+"
+        );
         assert_eq!(super::store(&store, &[]), drawn);
     }
 
