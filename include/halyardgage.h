@@ -28,7 +28,8 @@
  * Every call reads both forms, and two stores are compared by what stands
  * where, whatever their forms. What a call writes is in form 0 exactly if all
  * depths are equal. So an image in form 1 with equal depths stands for the same
- * store as its form 0 image; no other two images stand for one store.
+ * store as its form 0 image; no other two images stand for one store. (Proved:
+ * other-bytes and two-images, in crates/image/proofs/RoundTrip.antt.)
  *
  * LISTS. A list is bytes, one for each lift: the shaft left in the high four
  * bits, the shaft entered in the low four.

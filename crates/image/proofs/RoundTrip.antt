@@ -4,6 +4,7 @@
 use borrow.Author.Tests.{lt-ltb, le-ltb, ltb-true, ltb-false, eqb-true}
 use mathlib.Core.Bool.{Bool, true, false, cond, not}
 use mathlib.Core.List.{List, [], _++_, append-nil, append-assoc}
+use mathlib.Core.Logic.{_⊎_, inl, inr}
 use mathlib.Core.Path.{_≡_, refl, sym, ap, _∙_, subst}
 use Prim.Native.Nat.{ℕ, suc, _+_, _-_, _*_, _/_, _%_, _≤_, _<_}
 use native.Mathlib.Decide.{ℕ-discrete, decLt}
@@ -278,3 +279,12 @@ module _ (bytes : List ℕ) (s : Store) (i : ImageOf bytes s) where
 -- no two images in one form stand for one store
 pub one-image : (a b : List ℕ) (s : Store) → ImageOf a s → ImageOf b s → formIn a ≡ formIn b → a ≡ b
 one-image a b s p q e = sym (p .is) ∙ ap (λ (f : ℕ). imageIn f s) e ∙ q .is
+
+-- two other images that stand for one store: one of them is a form 1 image with equal depths
+pub two-images : (a b : List ℕ) (s : Store) → ImageOf a s → ImageOf b s → (a ≡ b → ⊥) → Rewritten a s ⊎ Rewritten b s
+two-images a b s p q n =
+    let other : formIn a ≡ formIn b → ⊥ = λ e. n (one-image a b s p q e) in
+    elim (ℕ-discrete (formIn a) 0) [
+      | yes z ↦ inr (omega (arith, q .known), p .equal z)
+      | no z ↦ inl (omega (arith, p .known), q .equal (omega (arith, p .known, q .known)))
+    ]
