@@ -17,14 +17,14 @@ use Rattle.store.specs.Slots.{deepest, cassettesBelow, cassettes, cassetteCount
 use Rattle.marks.proofs.Faulted.{both-true}
 use Rattle.replay.proofs.Replays.{leads-replay}
 use Rattle.bits.specs.Fields.{bits, packed, bitsOf, bytesOf, nextField}
-use Rattle.image.specs.Image.{imageOf}
+use Rattle.image.specs.Image.{lengthIn, imageOf}
 use Rattle.image.specs.Reading.{Reading, readImage}
 use Rattle.reach.specs.Pairs.{pairFault}
 use Rattle.reach.specs.Rules.{twoShaftReading, floor}
 use Rattle.reach.specs.Tests.{ruleTest}
 use Rattle.reach.proofs.RuleTests.{list-test, store-test, reachable-test}
 use Rattle.reach.proofs.Sets.{comparable}
-use Rattle.cases.specs.Claims.{Claim, liftGets, yesBy, unreachable, pairGets, spaceIs, readingGets, imageIs, imageBecomes, ClaimHolds, AllHold}
+use Rattle.cases.specs.Claims.{Claim, liftGets, yesBy, unreachable, pairGets, spaceIs, readingGets, imageIs, imageBecomes, lengthIs, ClaimHolds, AllHold}
 use Rattle.cases.specs.Table.{table}
 use Rattle.cases.specs.Tests.{readAlike, tested, allTested}
 
@@ -58,6 +58,7 @@ holds (imageIs bytes s) e =
 holds (imageBecomes bytes s written) e =
     let p = both-true (readAlike (readImage bytes) (record { store = s; number = 0 })) _ e in
     (read-alike _ _ (p .0), list-test (imageOf s) written .so (p .1))
+holds (lengthIs f s k) e = eqb-true (lengthIn f s) k e
 
 all-hold : (cs : List Claim) → allTested cs ≡ true → AllHold cs
 unfolding allTested

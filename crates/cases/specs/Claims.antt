@@ -8,7 +8,7 @@ use Rattle.store.specs.Slots.{listSpace}
 use Rattle.store.specs.Lifts.{liftNumber}
 use Rattle.store.specs.Lists.{Leads, Reachable}
 use Rattle.reach.specs.Pairs.{pairFault}
-use Rattle.image.specs.Image.{imageOf}
+use Rattle.image.specs.Image.{lengthIn, imageOf}
 use Rattle.image.specs.Reading.{refused, readImage}
 
 -- a list with zeros after it, k numbers long
@@ -49,6 +49,8 @@ pub data Claim : Type 0 where
   imageIs : List ℕ → Store → Claim
   -- an image is read as a store, which is written as another image
   imageBecomes : List ℕ → Store → List ℕ → Claim
+  -- the image of a store in a form has so many bytes
+  lengthIs : ℕ → Store → ℕ → Claim
 
 abbrev pub ClaimHolds : Claim → Type 0
 ClaimHolds (liftGets s a b k) = liftNumber s a b ≡ k
@@ -59,6 +61,7 @@ ClaimHolds (spaceIs s k) = listSpace s ≡ k
 ClaimHolds (readingGets bytes k) = readImage bytes ≡ refused k
 ClaimHolds (imageIs bytes s) = (readImage bytes ≡ record { store = s; number = 0 }) × (imageOf s ≡ bytes)
 ClaimHolds (imageBecomes bytes s written) = (readImage bytes ≡ record { store = s; number = 0 }) × (imageOf s ≡ written)
+ClaimHolds (lengthIs f s k) = lengthIn f s ≡ k
 
 -- every claim of a list holds
 abbrev pub AllHold : List Claim → Type 0

@@ -5,7 +5,7 @@ use Prim.Native.Nat.{ℕ}
 use lib.ListN.{replicate}
 use Rattle.marks.specs.Cassettes.{blank}
 use Rattle.store.specs.declared.Store.{Store}
-use Rattle.cases.specs.Claims.{Claim, liftGets, yesBy, unreachable, pairGets, spaceIs, readingGets, imageIs, imageBecomes, unevenOf, storeOf}
+use Rattle.cases.specs.Claims.{Claim, liftGets, yesBy, unreachable, pairGets, spaceIs, readingGets, imageIs, imageBecomes, lengthIs, unevenOf, storeOf}
 
 -- "m 3, h 3, no cassette"
 abbrev pub bare : Store
@@ -167,8 +167,12 @@ table =
     ∷ liftGets (unevenOf (17 ∷ 1 ∷ []) ((1 ∷ 2 ∷ []) ∷ (3 ∷ []) ∷ [])) 1 0 12
     ∷ liftGets (unevenOf (3 ∷ 1 ∷ 1 ∷ []) ((1 ∷ 2 ∷ []) ∷ (3 ∷ []) ∷ [])) 1 0 12
     ∷ readingGets (0x11 ∷ 0x20 ∷ 0x00 ∷ 0x80 ∷ 0x40 ∷ 0x80 ∷ []) 3
-    -- an image in form 1, the example in form 1, which "becomes the form 0 image of that store", and form 2
+    -- an image in form 1, the example in form 1, which "becomes the form 0 image of that store"
     ∷ imageIs (0x12 ∷ 0x21 ∷ 0x80 ∷ 0x81 ∷ 0x01 ∷ 0x88 ∷ 0x41 ∷ 0x04 ∷ 0x20 ∷ 0xA0 ∷ []) uneven
     ∷ imageBecomes (0x12 ∷ 0x11 ∷ 0x00 ∷ 0x81 ∷ 0x08 ∷ 0x04 ∷ 0x20 ∷ 0x60 ∷ []) example (0x02 ∷ 0x11 ∷ 0x00 ∷ 0x81 ∷ 0x00 ∷ 0x20 ∷ 0x60 ∷ [])
+    -- "The longest image now has 275 bytes": 256 cassettes in form 1; they are written in form 0
+    ∷ lengthIs 1 allBlank 275
+    ∷ lengthIs 0 allBlank 268
+    -- "Number 1 now covers forms above 1"
     ∷ readingGets (0x22 ∷ 0x11 ∷ 0x00 ∷ 0x81 ∷ 0x08 ∷ 0x04 ∷ 0x20 ∷ 0x60 ∷ []) 1
     ∷ []

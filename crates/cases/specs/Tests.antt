@@ -7,9 +7,9 @@ use Rattle.store.specs.Lifts.{liftNumber}
 use Rattle.replay.specs.Replaying.{replayFrom}
 use Rattle.reach.specs.Pairs.{sameList, pairFault}
 use Rattle.reach.specs.Tests.{sameStore, ruleTest}
-use Rattle.image.specs.Image.{imageOf}
+use Rattle.image.specs.Image.{lengthIn, imageOf}
 use Rattle.image.specs.Reading.{Reading, refused, readImage}
-use Rattle.cases.specs.Claims.{Claim, liftGets, yesBy, unreachable, pairGets, spaceIs, readingGets, imageIs, imageBecomes}
+use Rattle.cases.specs.Claims.{Claim, liftGets, yesBy, unreachable, pairGets, spaceIs, readingGets, imageIs, imageBecomes, lengthIs}
 
 abbrev pub readAlike : Reading → Reading → Bool
 readAlike o q = eqb (o .number) (q .number) && sameStore (o .store) (q .store)
@@ -23,6 +23,7 @@ tested (spaceIs s k) = eqb (listSpace s) k
 tested (readingGets bytes k) = readAlike (readImage bytes) (refused k)
 tested (imageIs bytes s) = readAlike (readImage bytes) (record { store = s; number = 0 }) && sameList (imageOf s) bytes
 tested (imageBecomes bytes s written) = readAlike (readImage bytes) (record { store = s; number = 0 }) && sameList (imageOf s) written
+tested (lengthIs f s k) = eqb (lengthIn f s) k
 
 -- every claim of a list passes its test
 unfoldable pub allTested : List Claim → Bool

@@ -1,5 +1,5 @@
-// How deep a cassette is buried (document 02, 1/13): "the fewest lifts after which nothing stands on a named cassette". The store is lent as its two
-// arrays, so that no order costs a copy of it.
+// How deep a cassette is buried (document 02, 1/13): "the fewest lifts after which nothing stands on a named cassette". The store is lent as its
+// heights and its slots, so that no order costs a copy of it.
 use depths::Depths;
 use lifts::Heights;
 use lifts::Slots;

@@ -1,4 +1,4 @@
-//! The yes or no (document 01, "Which goals can be reached"), for two stores of equal depths and cassettes. The rows that never
+//! The yes or no (document 01, "Which goals can be reached"), for two stores with the same depths and the same cassettes. The rows that never
 //! change go by the depth of each shaft (document 02, 7/13).
 
 use crate::store::Store;

@@ -447,7 +447,7 @@ fn every_order_in_every_small_store() {
     }
 }
 
-/// A start in one form and a goal in the other are answered as in one form: compared "by what they mean". The lists are equal too.
+/// A start in one form and a goal in the other are answered as in one form, since both say what stands where. The lists are equal too.
 #[test]
 fn start_and_goal_in_two_forms() {
     let mut random = Random::new(89);

@@ -215,13 +215,15 @@ mod tests {
         assert_eq!(wrong, "shaft 1 is higher than its depth, 1");
     }
 
-    /// It prints as the same store in form 0 does, and an image of it is written in that form.
+    /// It prints as the same store in form 0 does, and what it prints is written in that form.
     #[test]
     fn form_1_with_equal_depths() {
         let image = [0x12, 0x11, 0x00, 0x81, 0x08, 0x04, 0x20, 0x60];
         let file = Scratch::holding("form-1", &image);
         assert_eq!(prints(&["text", &file.0]), format!("{EXAMPLE}\n"));
         assert_eq!(prints(&["show", &file.0]), prints(&["show", EXAMPLE]));
+        let written = prints(&["image", prints(&["text", &file.0]).trim_end()]);
+        assert_eq!(written, "02 11 00 81 00 20 60\n");
     }
 
     #[test]
