@@ -129,8 +129,8 @@ struct halyard_order {
 
 /* The bytes of an image in form 0 or 1, of m shafts with n cassettes, blanks
  * included, and the most that an image has: 16 shafts of depth 16, full, in
- * form 1. (Proved: length-image and longest, in
- * crates/image/proofs/Lengths.antt.) */
+ * form 1. What a call writes has at most 274. (Proved: length-image, longest
+ * and longest-written, in crates/image/proofs/Lengths.antt.) */
 #define HALYARD_IMAGE_LENGTH(form, m, n)                              \
     ((8 + 4 * ((form) == 0 ? (size_t)1 : (size_t)(m)) +               \
       5 * (size_t)(m) + 8 * (size_t)(n) + 7) / 8)

@@ -4,22 +4,24 @@ use mathlib.Core.Bool.{Bool, true, false, cond, not}
 use mathlib.Core.List.{List}
 use mathlib.Core.Path.{_≡_, refl, sym, ap, _∙_}
 use Prim.Native.Nat.{ℕ, zero, suc, _+_, _*_, _/_, _≤_, _<_}
-use native.Mathlib.Decide.{decLt}
+use native.Mathlib.Decide.{ℕ-discrete, decLt}
 use native.Mathlib.Nat.{not-suc-le-zero}
 use native.Mathlib.Omega.{arith}
 use lib.ListN.{length, drop, length-append}
 use Rattle.bits.specs.Fields.{bytesOf, byteCount}
 use Rattle.bits.proofs.Widths.{length-bits, length-packed}
 use Rattle.stacks.specs.Count.{sum}
+use Rattle.stacks.proofs.Sums.{sum-same, sum-le-outside}
 use Rattle.lifts.specs.Lifting.{heightIn}
 use Rattle.store.specs.declared.Store.{Store}
 use Rattle.rows.proofs.Upward.{rows-length}
-use Rattle.store.specs.Slots.{SameFrame, height, cassetteCount}
+use Rattle.store.specs.Slots.{SameFrame, depth, height, cassetteCount}
 use Rattle.store.specs.Accept.{Accepted}
-use Rattle.store.proofs.Acceptance.{accepted-shaped, accepted-most}
+use Rattle.store.specs.Sound.{Shaped}
+use Rattle.store.proofs.Acceptance.{accepted-shaped, accepted-few, accepted-most}
 use Rattle.store.proofs.Counted.{heights-counted}
-use Rattle.image.specs.Image.{frameWidth, heightWidth, cassetteWidth, lastForm, ownDepths, depthFields, fieldIf, headBits, columnBits, columnsBits, shaftsBits, imageBits, lengthIn, formOf, imageLength}
-use Rattle.image.proofs.Forms.{form-frame}
+use Rattle.image.specs.Image.{frameWidth, heightWidth, cassetteWidth, lastForm, ownDepths, depthFields, fieldIf, headBits, columnBits, columnsBits, shaftsBits, imageBits, lengthIn, EqualDepths, formOf, imageLength}
+use Rattle.image.proofs.Forms.{form-equal, form-known, form-frame}
 
 -- how many bits a field of w bits takes that is there or not
 abbrev pub widthIf : Bool → ℕ → ℕ
@@ -94,3 +96,27 @@ unfolding imageLength lengthIn
 length-frame s t f e =
     ap byteCount
     (length-image (formOf s) s ∙ cc (f .shafts, form-frame s t f, heights-counted s, heights-counted t, e) ∙ sym (length-image (formOf t) t))
+
+-- a store that holds 256 cassettes has 16 shafts of depth 16
+full-equal : (s : Store) → Accepted s → 256 ≤ cassetteCount s → EqualDepths s
+full-equal s e h x i =
+    let deep : (y : ℕ) → y < s .m → depth s y ≡ 16 = λ y j. omega (arith, accepted-few s e, p .shafts, p .rows y, sum-same (s .m) 16, sum-le-outside (s .m) (depth s) (λ z. 16) y j (λ z k n. p .rows z)) in
+    deep x i ∙ sym (deep 0 (omega arith))
+  where
+    p : Shaped s
+    p = accepted-shaped s e
+
+-- and so the longest image that is written has 274 bytes
+pub longest-written : (s : Store) → Accepted s → imageLength s ≤ 274
+unfolding imageLength lengthIn
+longest-written s e =
+    let m = accepted-shaped s e .shafts in
+    elim (ℕ-discrete (formOf s) 0) [
+      | yes z ↦ omega (arith, ap (λ (f : ℕ). length (imageBits f s)) z, length-image 0 s, heights-counted s, accepted-most s e)
+      | no z ↦ (
+        let one : formOf s ≡ 1 = omega (arith, form-known s) in
+        elim (decLt (cassetteCount s) 256) [
+          | yes k ↦ omega (arith, ap (λ (f : ℕ). length (imageBits f s)) one, length-image 1 s, heights-counted s)
+          | no k ↦ absurd (z (form-equal s (full-equal s e (omega arith))))
+        ])
+    ]
