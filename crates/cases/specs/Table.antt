@@ -170,7 +170,7 @@ table =
     -- an image in form 1, the example in form 1, which "becomes the form 0 image of that store"
     ∷ imageIs (0x12 ∷ 0x21 ∷ 0x80 ∷ 0x81 ∷ 0x01 ∷ 0x88 ∷ 0x41 ∷ 0x04 ∷ 0x20 ∷ 0xA0 ∷ []) uneven
     ∷ imageBecomes (0x12 ∷ 0x11 ∷ 0x00 ∷ 0x81 ∷ 0x08 ∷ 0x04 ∷ 0x20 ∷ 0x60 ∷ []) example (0x02 ∷ 0x11 ∷ 0x00 ∷ 0x81 ∷ 0x00 ∷ 0x20 ∷ 0x60 ∷ [])
-    -- "The longest image now has 275 bytes": 256 cassettes in form 1; they are written in form 0
+    -- "The longest image now has 275 bytes": 256 cassettes in form 1, and the same in form 0
     ∷ lengthIs 1 allBlank 275
     ∷ lengthIs 0 allBlank 268
     -- "Number 1 now covers forms above 1"

@@ -1,8 +1,8 @@
 -- Fields as the code reads them, of any width: a fault kept, a field missing, a field there; a field that is there or not; and the form.
 use borrow.Author.Tests.{lt-ltb, le-ltb}
-use mathlib.Core.Bool.{true, false, cond, not}
+use mathlib.Core.Bool.{Bool, true, false, cond, not}
 use mathlib.Core.List.{List}
-use mathlib.Core.Path.{_≡_, refl, sym, ap, _∙_}
+use mathlib.Core.Path.{_≡_, refl, sym, ap, _∙_, subst}
 use Prim.Native.Nat.{ℕ, zero, suc, _+_, _^_, _≤_, _<_}
 use native.Mathlib.Omega.{arith}
 use lib.ListN.{drop}
@@ -75,7 +75,7 @@ module _ (c : Cursor) (small : c .value < 2 ^ formWidth) where
     form-taken z = record { found = λ w. record { none = e; value = refl; place = omega arith }; same = λ l. simp (e, le-ltb lastForm (c .value) z); small = small; place = refl }
 
 -- the form, m − 1 and where no shaft has its own the depth − 1, one after the other
-pub head-read : {bytes : List ℕ} {form named size depth : Cursor} → FieldIs bytes formWidth (record { at = 0; value = 0; fault = 0 }) form → FormIs form named
+head-read : {bytes : List ℕ} {form named size depth : Cursor} → FieldIs bytes formWidth (record { at = 0; value = 0; fault = 0 }) form → FormIs form named
     → FieldIs bytes frameWidth named size → FieldIfIs bytes (not (ownDepths (named .value))) frameWidth 0 size depth
     → HeadIs bytes (record { form = named .value; m = size .value + 1; depth = depth .value; cursor = depth })
 unfolding readImage formIn
@@ -100,3 +100,11 @@ head-read {bytes} {form} {named} {size} {depth} f q m h = record {
   rows = h .small;
   within = omega (arith, f .within, q .place, m .within, h .within);
 }
+
+-- the same, where the form and whether shafts have their own depth are known by what is equal to them
+pub head-named : {bytes : List ℕ} {form named size depth : Cursor} {f : ℕ} {own : Bool} → FieldIs bytes formWidth (record { at = 0; value = 0; fault = 0 }) form → FormIs form named
+    → f ≡ named .value → FieldIs bytes frameWidth named size → own ≡ ownDepths f → FieldIfIs bytes (not own) frameWidth 0 size depth
+    → HeadIs bytes (record { form = f; m = size .value + 1; depth = depth .value; cursor = depth })
+head-named {bytes} {size = size} {depth} g q e m o h =
+    subst (λ (k : ℕ). HeadIs bytes (record { form = k; m = size .value + 1; depth = depth .value; cursor = depth })) (sym e)
+    (head-read g q m (subst (λ (b : Bool). FieldIfIs bytes (not b) frameWidth 0 size depth) (o ∙ ap ownDepths e) h))

@@ -108,6 +108,14 @@ fn check_form(c: Cursor) -> Cursor
     c
 }
 
+// The form that was read.
+fn form_named(c: Cursor) -> u8
+    requires { ⌜ c .value < 2 ^ formWidth ⌝ }
+    ensures { λ r. ⌜ r ≡ c .value ⌝ }
+{
+    c.value as u8
+}
+
 // The form, m, and in form 0 the depth − 1 of all shafts; and where the first shaft begins.
 pub struct Head {
     pub form: u8,
@@ -126,7 +134,7 @@ pub fn read_head(image: &[u8]) -> Head
         fault: 0,
     };
     let named = check_form(next_field(image, start, 4));
-    let form = named.value as u8;
+    let form = form_named(named);
     let size = next_field(image, named, 4);
     let depth = field_if(image, !own_depths(form), size, 4, 0);
     Head {

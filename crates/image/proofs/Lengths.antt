@@ -114,9 +114,9 @@ longest-written s e =
     elim (ℕ-discrete (formOf s) 0) [
       | yes z ↦ omega (arith, ap (λ (f : ℕ). length (imageBits f s)) z, length-image 0 s, heights-counted s, accepted-most s e)
       | no z ↦ (
-        let one : formOf s ≡ 1 = omega (arith, form-known s) in
-        elim (decLt (cassetteCount s) 256) [
-          | yes k ↦ omega (arith, ap (λ (f : ℕ). length (imageBits f s)) one, length-image 1 s, heights-counted s)
-          | no k ↦ absurd (z (form-equal s (full-equal s e (omega arith))))
-        ])
+          let one : formOf s ≡ 1 = omega (arith, form-known s) in
+          elim (decLt (cassetteCount s) 256) [
+            | yes k ↦ omega (arith, ap (λ (f : ℕ). length (imageBits f s)) one, length-image 1 s, heights-counted s)
+            | no k ↦ absurd (z (form-equal s (full-equal s e (omega arith))))
+          ])
     ]

@@ -1,22 +1,18 @@
 -- `read_head` meets its contract: two fields or three, one after the other.
-use mathlib.Core.Bool.{Bool, not}
-use mathlib.Core.Path.{subst}
-use Rattle.image.specs.Image.{frameWidth}
-use Rattle.fields.specs.Cursors.{FieldIfIs}
-use Rattle.fields.proofs.Cursors.{head-read}
+use Rattle.fields.proofs.Cursors.{head-named}
 use borrow.Author.Needs.{needs}
 use Rattle.fields.proofs.read_head.Statement.{statement}
 use Rattle.fields.proofs.read_head.Tie as tie
 
 returns : tie.Need-returns
 returns c =
-    let k = c .before .before .before .before .before in
-    let size = c .before .before .before .next-field2 in
-    head-read (k .before .next-field .ensures) (k .check-form .ensures) (size .ensures)
-    (subst (λ (b : Bool). FieldIfIs (k .before .before .before .args .image .now) (not b) frameWidth 0 (size .result) (c .before .field-if .result)) (c .before .before .own-depths .ensures) (c .before .field-if .ensures))
+    let d = c .before in
+    let n = d .before .before in
+    let k = n .before in
+    head-named (k .before .before .next-field .ensures) (k .before .check-form .ensures) (k .form-named .ensures) (n .next-field2 .ensures) (d .before .own-depths .ensures) (d .field-if .ensures)
 
 pub read-head-spec : {M : Type 1} → statement M
 read-head-spec =
     tie.close
-    (tie.spec (λ c κs. search needs) (λ c κs. search needs) (λ c. search needs) (λ c κs. search needs) (λ c κs. search needs)
+    (tie.spec (λ c κs. search needs) (λ c κs. search needs) (λ c κs. search needs) (λ c κs. search needs) (λ c κs. search needs)
     (λ c κs. search needs) (λ c. search needs) (λ c. search needs) returns)
