@@ -9,8 +9,8 @@ use Rattle.store.specs.Slots.{depth, height, upward, downward, emptyCount}
 unfoldable pub twoShaftReading : Store → List ℕ
 twoShaftReading s = upward s 0 (height s 0) ++ downward s 1 (height s 1)
 
--- "For m ≥ 3, rows 1 to (depth of that shaft) − e are the ones that never change" (document 02, 7/13; there are none if e is as much as the depth): how many
--- rows of shaft x those are
+-- The floor of shaft x, which never changes: how many there are of "rows 1 to (depth of that shaft) − e" (document 02, 7/13), none if e is as much as the depth.
+-- Other rows may never change either: of depths 1, 1 and 3 with one cassette, rows 2 and 3 of the last are always empty.
 unfoldable pub floor : Store → ℕ → ℕ
 floor s x = depth s x - emptyCount s
 

@@ -11,7 +11,7 @@ unfoldable pub sameStore : Store → Store → Bool
 unfolding sameList sameFrame
 sameStore s t = sameFrame s t && (sameList (s .heights) (t .heights) && sameList (s .slots) (t .slots))
 
--- shaft x has the same rows that never change
+-- shaft x has the same floor
 unfoldable pub sameFloor : Store → Store → ℕ → Bool
 unfolding sameList
 sameFloor s t x = sameList (upward s x (floor s x)) (upward t x (floor s x))

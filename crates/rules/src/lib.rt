@@ -63,7 +63,7 @@ fn same_rows(a: &Slots, b: &Slots, x: usize, k: usize) -> bool
     true
 }
 
-// How many rows of a shaft never change: its depth less e, or none.
+// How many rows the floor of a shaft has, which never changes: its depth less e, or none.
 pub fn floor_rows(depths: Depths, x: usize, e: usize) -> usize
     ensures { λ r. ⌜ r ≡ depthBy depths x - e ⌝ }
 {
@@ -71,7 +71,7 @@ pub fn floor_rows(depths: Depths, x: usize, e: usize) -> usize
     if e < rows { rows - e } else { 0 }
 }
 
-// Whether the rows of the first m shafts that never change agree.
+// Whether the floors of the first m shafts agree.
 fn same_floors(m: u8, depths: Depths, e: usize, a: &Slots, b: &Slots) -> bool
     requires { ⌜ (m ≤ mostShafts) × DepthsFit depths ⌝ }
     ensures { λ r. ⌜ Decides r ((x : ℕ) → x < m → rowsUp (now (a .entry)) x (depthBy depths x - e) ≡ rowsUp (now (b .entry)) x (depthBy depths x - e)) ⌝ }

@@ -20,7 +20,7 @@ pub fn two_shaft_reading(store: &Store) -> Vec<u8> {
     up.iter().chain(down.iter().rev()).copied().collect()
 }
 
-/// The rows that never change where there are three shafts or more.
+/// The floors, which never change.
 fn fixed_rows(store: &Store) -> Vec<&[u8]> {
     let shafts = store.shafts.iter().zip(store.floors());
     shafts.map(|(shaft, rows)| &shaft[..rows]).collect()

@@ -88,7 +88,7 @@ impl Store {
         all
     }
 
-    /// How many rows of a shaft from the bottom never change: its depth less e, or none.
+    /// How many rows the floor of a shaft has, which never changes: its depth less e, or none.
     pub fn floor(&self, shaft: usize) -> usize {
         self.depths[shaft].saturating_sub(self.e())
     }

@@ -156,8 +156,8 @@ fn two_shafts() {
     pair("2x2,1: [1 2] [3]", "2x2,1: [1 3] [2]", 15);
 }
 
-/// "For m >= 3, rows 1 to (depth of that shaft) - e are the ones that never change": with e = 2 row 1 of the shaft of depth 3, with e = 1 rows 1 and 2 of it and
-/// row 1 of the others.
+/// "For m >= 3, rows 1 to (depth of that shaft) - e" never change: with e = 2 row 1 of the shaft of depth 3, with e = 1 rows 1 and 2 of it and row 1 of the
+/// others.
 #[test]
 fn three_shafts() {
     let start = "3x3,2,2: [1 2 3] [4] [5]";
@@ -174,7 +174,7 @@ fn three_shafts() {
     pair(full, "3x1,3,2: [2] [1 3 4] [5 b]", 15);
 }
 
-/// Depths 1, 1 and 3: with one empty slot rows 1 and 2 of the deep shaft never change, with two only row 1, with three none.
+/// Depths 1, 1 and 3: the floor of the deep shaft is rows 1 and 2 with one empty slot, row 1 with two, and nothing with three.
 #[test]
 fn one_deep_shaft() {
     let one = "3x1,1,3: [1] [] [4 2 3]";

@@ -1,4 +1,4 @@
--- `same_floors` meets its contract. The invariant: the rows of the shafts passed that never change agree.
+-- `same_floors` meets its contract. The invariant: the floors of the shafts passed agree.
 use borrow.Author.Count.{below-none, below-more}
 use borrow.Author.Needs.{needs}
 use borrow.Author.Tests.{not-true, not-false}
@@ -18,7 +18,7 @@ Inv-loop m depths e a b shafts x₀ x = (shafts ≡ m) × (x ≤ shafts) × ((y 
 abbrev μ-loop : tie.MeasureT-loop
 μ-loop m depths e a b shafts x₀ x = shafts - x
 
--- the rows tested are those that never change
+-- the rows tested are the floor
 tested : (c : tie.After-same-rows Inv-loop μ-loop) → let a = c .before .before .before .before .args in let x = c .before .before .before .loop .x in
     Decides (c .same-rows .result) (rowsUp (a .a .now) x (depthBy (a .depths) x - a .e) ≡ rowsUp (a .b .now) x (depthBy (a .depths) x - a .e))
 tested c =
