@@ -73,7 +73,7 @@ pub fn new<'a>(src: &'a [u8], at: usize) -> Reader<'a>
     Reader { src, at }
 }
 
-// "The reader takes the next field of 4, 5 or 8 bits"
+// "The reader takes the next field of 4, 5 or 8 bits", or of 12 (request 8/13)
 pub fn next<'a>(r: Reader<'a>, w: usize) -> Field
     requires { ⌜ (0 < w) × (w ≤ 16) ⌝ }
     ensures { λ f. ⌜ f ≡ nextField (drop (r .entry .at) (bitsOf (now (r .entry .src)))) w ⌝ }

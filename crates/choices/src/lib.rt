@@ -56,7 +56,7 @@ fn propose(
         let i = x as usize;
         if done[i] < tops[i] {
             let v = next(goal, done, Shaft(x)) as usize;
-            let p = hints[v];
+            let p = hints[v % 4096];
             let cost = heights[i] + cover(heights, p);
             if cost < least {
                 least = cost;

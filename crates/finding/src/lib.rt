@@ -90,7 +90,7 @@ pub fn seek(
     requires { ⌜ Somewhere f (now heights) (now slots) (now done) v ⌝ }
     ensures { λ r. ⌜ Stands f (now (heights .entry)) (now (slots .entry)) (now (done .entry)) v (r .shaft .0) (r .row .0) ⌝ }
 {
-    let at = spot_at(hints[v as usize]);
+    let at = spot_at(hints[v as usize % 4096]);
     if stands(f, heights, slots, done, v, at) {
         return at;
     }

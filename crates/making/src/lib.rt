@@ -35,12 +35,12 @@ fn make_two(start: Store, goal: Store, out: &mut [u8]) -> usize
 fn hints_of(m: u8, slots: &Slots) -> Hints
     requires { ⌜ m ≤ 16 ⌝ }
 {
-    let mut hints: Hints = [0; 256];
+    let mut hints: Hints = [0; 4096];
     let mut p: usize = 0;
     let end = 16 * (m as usize);
     while p < end {
         let v = slot_at(slots, p) as usize;
-        hints[v] = p as u8;
+        hints[v % 4096] = p as u8;
         p += 1;
     }
     hints

@@ -1,6 +1,6 @@
 -- The cassettes of a list that are no blanks (request 5/13): each number but the blank stands among them as often as in the list, and with the blanks they
 -- are as many as its cassettes.
-use borrow.Author.Tests.{eq-eqb, ne-eqb}
+use borrow.Author.Tests.{eqb-true, eq-eqb, ne-eqb}
 use mathlib.Core.Bool.{Bool, true, false, cond}
 use mathlib.Core.List.{List, [], _∷_, _++_}
 use mathlib.Core.Path.{_≡_, refl, sym, ap, _∙_}
@@ -15,6 +15,14 @@ use Rattle.marks.specs.Cassettes.{blank, isBlank}
 use Rattle.marks.specs.Marking.{others}
 
 -- there is one blank
+pub blank-is : isBlank blank ≡ true
+unfolding isBlank
+blank-is = refl
+
+pub only-blank : (c : ℕ) → isBlank c ≡ true → c ≡ blank
+unfolding isBlank
+only-blank c e = eqb-true c blank e
+
 pub no-other-blank : (c : ℕ) → (c ≡ blank → ⊥) → isBlank c ≡ false
 unfolding isBlank
 no-other-blank c n = ne-eqb c blank n

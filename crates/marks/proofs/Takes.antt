@@ -1,5 +1,5 @@
 -- Taking one cassette more: the fault by what is marked, and the marks with it.
-use borrow.Author.Tests.{eqb-true, eq-eqb, ne-eqb, lt-ltb, le-ltb, ltb-false, eqb-false}
+use borrow.Author.Tests.{eqb-true, eq-eqb, ne-eqb, lt-ltb, le-ltb, ltb-true, ltb-false, eqb-false}
 use mathlib.Core.Bool.{Bool, true, false, not, _&&_, cond}
 use mathlib.Core.List.{List, [], _∷_, _++_}
 use mathlib.Core.Path.{_≡_, refl, sym, ap, _∙_}
@@ -10,34 +10,41 @@ use lib.Dec.{eqb, ltb}
 use lib.ListN.{length}
 use Rattle.stacks.specs.Count.{count, one}
 use Rattle.stacks.proofs.Counts.{count-last}
-use Rattle.marks.specs.declared.Taken.the-variants.{Added, NumberZero, Twice}
-use Rattle.marks.specs.Cassettes.{numbers, blank, isBlank, Once, given, cassetteFault}
+use Rattle.marks.specs.declared.Taken.the-variants.{Added, NoCassette, Twice}
+use Rattle.marks.specs.Cassettes.{numbers, blank, isBlank, isCassette, Once, given, cassetteFault}
 use Rattle.marks.specs.Marking.{markWords, noMarks, marked, withMark, withCassette, withMarks, others, marksOf, markCount, Marked}
 use Rattle.marks.specs.Taking.{TakenIs}
-use Rattle.marks.proofs.Faulted.{first-none, first-either, given-either, given-none}
+use Rattle.marks.proofs.Faulted.{first-none, first-either, given-either, given-none, not-given, both-true}
 use Rattle.marks.proofs.MarkLaws.{with-more, marked-exactly, count-of}
 use Rattle.marks.proofs.Others.{no-other-blank, others-last, others-count, others-fewer, no-blank, others-length}
+
+-- a cassette's number is one of 1 to 4,095
+pub cassette-range : (c : ℕ) → isCassette c ≡ true → (0 < c) × (c < numbers)
+cassette-range c e = let p = both-true (ltb 0 c) (ltb c numbers) e in (ltb-true 0 c (p .0), ltb-true c numbers (p .1))
+
+pub range-cassette : (c : ℕ) → (c ≡ 0 → ⊥) → c < numbers → isCassette c ≡ true
+range-cassette c n h = simp (lt-ltb 0 c (omega arith), lt-ltb c numbers h)
 
 -- the fault of one cassette more, by cases
 module _ (l : List ℕ) (c : ℕ) where
   pub cassette-either : (P : ℕ → Type 0) → P 0 → P 4 → P 5 → P (cassetteFault l c)
   unfolding cassetteFault
   cassette-either P none four five =
-      first-either P _ _ (given-either P (eqb c 0) 4 none four) (given-either P (not (isBlank c) && ltb 0 (count c l)) 5 none five)
+      first-either P _ _ (given-either P (not (isCassette c)) 4 none four) (given-either P (not (isBlank c) && ltb 0 (count c l)) 5 none five)
 
-  pub cassette-taken : (c ≡ 0 → ⊥) → (isBlank c ≡ false → count c l ≡ 0) → cassetteFault l c ≡ 0
+  pub cassette-taken : isCassette c ≡ true → (isBlank c ≡ false → count c l ≡ 0) → cassetteFault l c ≡ 0
   unfolding cassetteFault
-  cassette-taken n h = simp (ne-eqb c 0 n) (by-blank (isBlank c) refl)
+  cassette-taken n h = simp n (by-blank (isBlank c) refl)
     where
       by-blank : (r : Bool) → isBlank c ≡ r → given (not r && ltb 0 (count c l)) 5 ≡ 0
       by-blank true e = refl
       by-blank false e = simp (le-ltb 0 (count c l) (omega (arith, h e)))
 
-  pub taken-cassette : cassetteFault l c ≡ 0 → (c ≡ 0 → ⊥) × (isBlank c ≡ false → count c l ≡ 0)
+  pub taken-cassette : cassetteFault l c ≡ 0 → (isCassette c ≡ true) × (isBlank c ≡ false → count c l ≡ 0)
   unfolding cassetteFault
   taken-cassette e =
       let p = first-none _ _ e in
-      (eqb-false c 0 (given-none _ 3 (p .0)), λ r. let h : count c l ≤ 0 = ltb-false 0 (count c l) (sym (ap (λ (t : Bool). not t && ltb 0 (count c l)) r) ∙ given-none _ 4 (p .1)) in omega arith)
+      (not-given (isCassette c) 3 (p .0), λ r. let h : count c l ≤ 0 = ltb-false 0 (count c l) (sym (ap (λ (t : Bool). not t && ltb 0 (count c l)) r) ∙ given-none _ 4 (p .1)) in omega arith)
 
 -- what the mark of a number says
 pub mark-is : (words l : List ℕ) (c : ℕ) → Marked words l → c < numbers → marked words c ≡ min 1 (count c (others l))
@@ -87,24 +94,27 @@ marked-more words l c m h z = record {
 
 -- the answers of taking a cassette
 module _ (words : List ℕ) (c : ℕ) where
-  pub zero-is : c ≡ 0 → TakenIs words c words NumberZero
+  pub none-is : isCassette c ≡ false → TakenIs words c words NoCassette
   unfolding cassetteFault
-  zero-is e = record {
-    number = sym (simp (eq-eqb c 0 e));
+  none-is e = record {
+    number = sym (simp e);
     words-are = refl;
-    fault = λ before m. sym (simp (eq-eqb c 0 e));
+    fault = λ before m. sym (simp e);
     marks = λ before m. refl;
   }
 
-  module _ (n : c ≡ 0 → ⊥) (h : c < numbers) where
+  module _ (n : isCassette c ≡ true) where
+    h : c < numbers
+    h = cassette-range c n .1
+
     pub twice-is : eqb (marked words c) 1 ≡ true → TakenIs words c words Twice
     unfolding cassetteFault
     twice-is t = record {
-      number = sym (simp (ne-eqb c 0 n, t));
+      number = sym (simp (n, t));
       words-are = refl;
       fault = λ before m.
           let p = mark-found words before c m h t in
-          sym (simp (ne-eqb c 0 n, p .0, lt-ltb 0 (count c before) (p .1)));
+          sym (simp (n, p .0, lt-ltb 0 (count c before) (p .1)));
       marks = λ before m. refl;
     }
 
@@ -112,7 +122,7 @@ module _ (words : List ℕ) (c : ℕ) where
     added-is t =
         let z : (before : List ℕ) → Marked words before → isBlank c ≡ false → count c before ≡ 0 = λ before m b. mark-missing words before c m h b t in
         record {
-          number = sym (simp (ne-eqb c 0 n, t));
+          number = sym (simp (n, t));
           words-are = refl;
           fault = λ before m. sym (cassette-taken before c n (z before m));
           marks = λ before m. marked-more words before c m h (z before m);

@@ -6,16 +6,20 @@ use Prim.Native.Nat.{ℕ, zero, suc, _≤_}
 use lib.Dec.{ltb, eqb}
 use Rattle.stacks.specs.Count.{count}
 
--- "A cassette is a number 1 to 255. 0 marks an empty slot and nothing else.": what a slot shows is below this
+-- "0 marks an empty slot and nothing else.", and "Cassettes run to 4,094 and 4,095 is the blank" (request 8/13): what a slot shows is below this
 abbrev pub numbers : ℕ
-numbers = 256
+numbers = 4096
 
--- "Cassette number 255 means a blank from now on and may stand any number of times" (request 5/13)
+-- the blank "may stand any number of times" (request 5/13)
 abbrev pub blank : ℕ
-blank = 255
+blank = 4095
 
 unfoldable pub isBlank : ℕ → Bool
 isBlank c = eqb c blank
+
+-- a cassette's number, a blank's included
+abbrev pub isCassette : ℕ → Bool
+isCassette c = ltb 0 c && ltb c numbers
 
 -- no number but the blank stands twice in a list
 abbrev pub Once : List ℕ → Type 0
@@ -31,6 +35,7 @@ abbrev pub first : ℕ → ℕ → ℕ
 first zero k = k
 first (suc j) k = suc j
 
--- "4. A cassette number 0.", and then 5, a number that stood earlier: it "no longer applies to" the blank (request 5/13)
+-- "4. A cassette number 0.", which "also covers a number above 4,095 in a store value" (request 8/13), and then 5, a number that stood earlier: it "no longer
+-- applies to" the blank (request 5/13)
 unfoldable pub cassetteFault : List ℕ → ℕ → ℕ
-cassetteFault before c = first (given (eqb c 0) 4) (given (not (isBlank c) && ltb 0 (count c before)) 5)
+cassetteFault before c = first (given (not (isCassette c)) 4) (given (not (isBlank c) && ltb 0 (count c before)) 5)

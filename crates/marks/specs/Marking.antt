@@ -12,7 +12,7 @@ use Rattle.marks.specs.Cassettes.{numbers, isBlank, Once}
 
 -- how many words hold a mark for every number
 abbrev pub markWords : ℕ
-markWords = 4
+markWords = 64
 
 abbrev pub noMarks : List ℕ
 noMarks = replicate markWords 0

@@ -1,4 +1,4 @@
-// Cassette numbers, which of them is the blank (request 5/13), and the set of marks of the others (document 01, "The store": "kept as a set of
+// Cassette numbers, which of them is the blank (request 8/13), and the set of marks of the others (document 01, "The store": "kept as a set of
 // marks"), changed in place.
 ghost use mathlib.Core.Path.{_≡_};
 ghost use Prim.Native.Nat.{_≤_, _<_};
@@ -6,27 +6,27 @@ ghost use lib.Count.{ones};
 ghost use lib.Dec.{eqb};
 ghost use lib.ListN.{getD};
 ghost use Rattle.stacks.specs.Deciding.{Decides};
-ghost use Rattle.marks.specs.Cassettes.{blank, isBlank};
-ghost use Rattle.marks.specs.Marking.{noMarks, marked, withCassette, markCount};
+ghost use Rattle.marks.specs.Cassettes.{numbers, blank, isBlank, isCassette};
+ghost use Rattle.marks.specs.Marking.{markWords, noMarks, marked, withCassette, markCount};
 ghost use Rattle.marks.specs.Taking.{TakenIs};
 
 // A cassette, by its number. "0 marks an empty slot and nothing else."
-pub type Cassette = u8;
+pub type Cassette = u16;
 
 // Words of marks: bit c % 64 of word c / 64 stands for cassette c.
-pub type Words = [u64; 4];
+pub type Words = [u64; 64];
 
 pub fn none() -> Words
     ensures { λ r. ⌜ r ≡ noMarks ⌝ }
 {
-    [0u64; 4]
+    [0u64; 64]
 }
 
-// "Cassette number 255 means a blank from now on" (request 5/13)
+// "Cassettes run to 4,094 and 4,095 is the blank" (request 8/13)
 pub fn blank() -> Cassette
     ensures { λ r. ⌜ r ≡ blank ⌝ }
 {
-    255
+    4095
 }
 
 pub fn is_blank(c: Cassette) -> bool
@@ -35,9 +35,16 @@ pub fn is_blank(c: Cassette) -> bool
     c == blank()
 }
 
+// Whether a number is a cassette's, a blank's included.
+fn is_cassette(c: Cassette) -> bool
+    ensures { λ r. ⌜ r ≡ isCassette c ⌝ }
+{
+    0 < c && c < 4096
+}
+
 // A word of marks.
 fn word(words: &Words, i: usize) -> u64
-    requires { ⌜ i < 4 ⌝ }
+    requires { ⌜ i < markWords ⌝ }
     ensures { λ r. ⌜ r ≡ getD (now (words .entry)) i 0 ⌝ }
 {
     words[i]
@@ -45,6 +52,7 @@ fn word(words: &Words, i: usize) -> u64
 
 // Whether a cassette is marked.
 fn has(words: &Words, c: Cassette) -> bool
+    requires { ⌜ c < numbers ⌝ }
     ensures { λ r. ⌜ r ≡ eqb (marked (now (words .entry)) c) 1 ⌝ }
 {
     let i = (c >> 6) as usize;
@@ -54,6 +62,7 @@ fn has(words: &Words, c: Cassette) -> bool
 
 // Marks a cassette, unless it is a blank, which has no mark. With no branch: where blanks stand can't be foretold.
 fn mark(words: &mut Words, c: Cassette)
+    requires { ⌜ c < numbers ⌝ }
     ensures { λ r. ⌜ now (words .exit) ≡ withCassette (now (words .entry)) c ⌝ }
 {
     let i = (c >> 6) as usize;
@@ -65,7 +74,7 @@ fn mark(words: &mut Words, c: Cassette)
 // Whether one cassette more was added to others, or why not: 4, 5.
 pub enum Taken {
     Added,
-    NumberZero,
+    NoCassette,
     Twice,
 }
 
@@ -73,8 +82,8 @@ pub enum Taken {
 pub fn take(words: &mut Words, c: Cassette) -> Taken
     ensures { λ r. ⌜ TakenIs (now (words .entry)) c (now (words .exit)) r ⌝ }
 {
-    if c == 0 {
-        return Taken::NumberZero;
+    if !is_cassette(c) {
+        return Taken::NoCassette;
     }
     if has(words, c) {
         return Taken::Twice;
@@ -97,7 +106,7 @@ pub fn count(words: Words) -> usize
 {
     let mut n: usize = 0;
     let mut i: usize = 0;
-    while i < 4 {
+    while i < 64 {
         n += ones_of(words[i]);
         i += 1;
     }
@@ -109,7 +118,7 @@ pub fn same(a: Words, b: Words) -> bool
     ensures { λ r. ⌜ Decides r (a ≡ b) ⌝ }
 {
     let mut j: usize = 0;
-    while j < 4 {
+    while j < 64 {
         if a[j] != b[j] {
             return false;
         }

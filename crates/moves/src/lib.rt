@@ -12,8 +12,8 @@ ghost use Rattle.lifts.specs.Carried.{CanCarry};
 ghost use Rattle.moves.specs.Put.{PutIs};
 ghost use Rattle.moves.specs.Written.{written};
 
-// For each number a place: 16 for a shaft, from row 1 upward. No promise rests on it.
-pub type Hints = [u8; 256];
+// For each number a place: 16 for a shaft, from row 1 upward. No promise rests on it, and numbers that leave the same remainder by 4,096 share one.
+pub type Hints = [u8; 4096];
 
 // One lift: made in the heights and the slots of a store, and its byte written at the end of the list. It gives the new end. `hints` is
 // where each number was set down last.
@@ -32,7 +32,7 @@ pub fn put_lift(
 {
     let carried = carry(heights, slots, from, to);
     let row = carried.row;
-    hints[carried.cassette as usize] = 16 * to.0 + (row.0 - 1);
+    hints[carried.cassette as usize % 4096] = 16 * to.0 + (row.0 - 1);
     out[count] = pack(from, to);
     count + 1
 }

@@ -26,7 +26,7 @@ use Rattle.store.proofs.Acceptance.{accepted-shaped}
 use Rattle.store.proofs.Checks.{fault-one}
 use Rattle.store.proofs.Lifting.{tried-stays, tried-lifts}
 use Rattle.store.proofs.Refusals.{none-allowed}
-use Rattle.store.proofs.Typed.{below-set}
+use Rattle.store.proofs.Typed.{each-set}
 use Rattle.store.proofs.Views.{Moved, lift-moves, lifted-shaped}
 use Rattle.replay.specs.declared.End.{End}
 use Rattle.replay.specs.declared.Played.{Played}
@@ -173,8 +173,8 @@ module _ (s t : Store) (l carries : List ℕ) (n : ℕ) (g : Goes s l t carries 
             ];
             few = λ k. elim (ℕ-discrete (length carries) slotCount) [
               | yes f ↦
-                  (let rest : (k : ℕ) → getD (set carries i 0) k 0 < suc (suc n) = below-set carries i 0 (omega arith) (λ k. omega (arith, g .few k)) in
-                  rw (w .moved f) (below-set (set carries i 0) j (suc (getD carries i 0)) (omega (arith, g .few i)) rest k))
+                  (let rest : (k : ℕ) → getD (set carries i 0) k 0 < suc (suc n) = each-set (λ h. h < suc (suc n)) carries i 0 (omega arith) (λ k. omega (arith, g .few k)) in
+                  rw (w .moved f) (each-set (λ h. h < suc (suc n)) (set carries i 0) j (suc (getD carries i 0)) (omega (arith, g .few i)) rest k))
               | no m ↦ rw (w .none m) (omega (arith, g .few k))
             ];
           })

@@ -21,12 +21,12 @@ no-rows words slots x = record { none = λ before m. refl; marks = λ before m. 
 
 taken-one : (r : Taken) → (r ≡ Taken.Added → ⊥) → takenNumber r ≡ 0 → ⊥
 taken-one Taken.Added n e = n refl
-taken-one Taken.NumberZero n e = omega arith
+taken-one Taken.NoCassette n e = omega arith
 taken-one Taken.Twice n e = omega arith
 
 refused-words : (r : Taken) → (r ≡ Taken.Added → ⊥) → {words words′ : List ℕ} {c : ℕ} → TakenIs words c words′ r → words′ ≡ words
 refused-words Taken.Added n t = absurd (n refl)
-refused-words Taken.NumberZero n t = t .words-are
+refused-words Taken.NoCassette n t = t .words-are
 refused-words Taken.Twice n t = t .words-are
 
 module _ {words slots : List ℕ} {x k : ℕ} {words′ words″ : List ℕ} (p : RowsSoFar words slots x k words′) where

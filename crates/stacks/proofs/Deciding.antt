@@ -31,6 +31,11 @@ pub says-not : (r : Bool) {P : Type 0} → Decides r P → (P → ⊥) → r ≡
 says-not true d n = absurd (n (d .so refl))
 says-not false d n = refl
 
+-- two tests of the same say the same
+pub decides-same : (r q : Bool) {P : Type 0} → Decides r P → Decides q P → r ≡ q
+decides-same r true d e = says-so r d (e .so refl)
+decides-same r false d e = says-not r d (e .not-so refl)
+
 -- what is tested is so or not so
 pub decided : (r : Bool) {P : Type 0} → Decides r P → P ⊎ (P → ⊥)
 decided true d = inl (d .so refl)

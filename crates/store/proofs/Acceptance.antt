@@ -6,10 +6,10 @@ use Prim.Native.Nat.{ℕ, suc, _+_, _-_, _≤_, _<_}
 use native.Mathlib.Omega.{arith}
 use Rattle.stacks.specs.Count.{sum, count}
 use Rattle.stacks.proofs.Sums.{sum-le, sum-same}
-use Rattle.marks.specs.Cassettes.{blank, given}
+use Rattle.marks.specs.Cassettes.{blank, isCassette, given}
 use Rattle.marks.specs.Marking.{marksOf, markCount, Marked}
 use Rattle.marks.proofs.Faulted.{first-none, not-given}
-use Rattle.marks.proofs.Takes.{taken-cassette, marks-counted}
+use Rattle.marks.proofs.Takes.{cassette-range, range-cassette, taken-cassette, marks-counted}
 use Rattle.lifts.specs.Lifting.{mostRows, slotCount}
 use Rattle.store.specs.declared.Store.{Store}
 use Rattle.store.specs.Slots.{depth, height, slot, cassettesBelow, cassettes, cassetteCount}
@@ -22,6 +22,7 @@ use Rattle.store.proofs.Once.{walked-once, once-walks, cassettes-below}
 use Rattle.store.proofs.Verdicts.{by-shafts}
 use Rattle.store.proofs.Views.{holds-below}
 use Rattle.store.proofs.Walk.{shaft-none, not-too-high}
+use Rattle.store.proofs.Rows.{slot-numbered}
 use Rattle.rows.proofs.Walk.{row-none}
 
 module _ (s : Store) where
@@ -31,12 +32,20 @@ module _ (s : Store) where
     unfolding storeFault
     none-met = let p = first-none (given (not (inPlace s)) 12) _ e in (not-given (inPlace s) 11 (p .0), p .1)
 
+    -- the walk over the shafts of an accepted store meets no fault
+    pub accepted-walks : shaftsFault s (s .m) ≡ 0
+    accepted-walks = none-met .1
+
     -- no shaft below m is too high, and none of its rows has a fault
     shaft-taken : (x : ℕ) → x < s .m → (height s x ≤ depth s x) × (rowsFault (cassettesBelow s x) (s .slots) x (height s x) ≡ 0)
     shaft-taken x h = not-too-high s x (shaft-none s x (s .m) (none-met .1) h)
 
+    row-taken : (x k : ℕ) → x < s .m → k < height s x → isCassette (slot s x (suc k)) ≡ true
+    row-taken x k h i = taken-cassette _ _ (row-none _ (s .slots) x k _ (shaft-taken x h .1) i) .0
+
     pub accepted-shaped : Shaped s
-    accepted-shaped = in-place-shaped s (none-met .0) (λ x h. shaft-taken x h .0)
+    accepted-shaped =
+        in-place-shaped s (none-met .0) (λ x h. shaft-taken x h .0) (λ x k h i. cassette-range _ (row-taken x k h i) .1)
 
     pub accepted-sound : Sound s
     unfolding cassettes
@@ -44,7 +53,7 @@ module _ (s : Store) where
       shaped = accepted-shaped;
       some-shaft = shafts-in-range s (none-met .0) .0;
       some-row = some-depth s (none-met .0);
-      no-gap = λ x k h. taken-cassette _ _ (row-none _ (s .slots) x k _ (shaft-taken x (holds-below s x accepted-shaped (omega arith)) .1) h) .0;
+      no-gap = λ x k h z. omega (arith, cassette-range (slot s x (suc k)) (row-taken x k (holds-below s x accepted-shaped (omega arith)) h) .0);
       once = walked-once s (s .m) (none-met .1);
     }
 
@@ -73,4 +82,4 @@ module _ (s : Store) where
   pub sound-accepted : Sound s → Accepted s
   unfolding cassettes
   sound-accepted p =
-      by-shafts s (shaped-in-place s (p .shaped) (p .some-shaft) (p .some-row)) ∙ once-walks s (s .m) (p .shaped .heights) (p .no-gap) (p .once)
+      by-shafts s (shaped-in-place s (p .shaped) (p .some-shaft) (p .some-row)) ∙ once-walks s (s .m) (p .shaped .heights) (λ x k h. range-cassette _ (p .no-gap x k h) (slot-numbered s x (suc k) (p .shaped .numbered))) (p .once)

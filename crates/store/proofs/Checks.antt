@@ -6,7 +6,7 @@ use native.Mathlib.Omega.{arith}
 use Rattle.marks.specs.Marking.{noMarks, marksOf}
 use Rattle.store.specs.declared.Checked.{Checked}
 use Rattle.store.specs.declared.Fault.{Fault}
-use Rattle.store.specs.declared.Fault.the-variants.{OutOfPlace, TooHigh, NumberZero, Twice}
+use Rattle.store.specs.declared.Fault.the-variants.{OutOfPlace, TooHigh, NoCassette, Twice}
 use Rattle.store.specs.declared.Verdict.the-variants.{Accepted, Refused}
 use Rattle.store.specs.Numbers.{faultNumber, verdictNumber}
 use Rattle.store.specs.Promises.{marksUnless, CheckIs}
@@ -19,7 +19,7 @@ no-marks (suc k) l n = refl
 fault-range : (f : Fault) → (0 < faultNumber f) × (faultNumber f ≤ 12)
 fault-range OutOfPlace = omega arith
 fault-range TooHigh = omega arith
-fault-range NumberZero = omega arith
+fault-range NoCassette = omega arith
 fault-range Twice = omega arith
 
 pub fault-one : (f : Fault) → faultNumber f ≡ 0 → ⊥

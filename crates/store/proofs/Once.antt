@@ -1,7 +1,7 @@
 -- A walk without a fault met no number twice but the blank, and its cassettes are what slots may show; and where no number but the blank stands
--- twice, none is 0 and no height passes the depth, the walk meets no fault.
+-- twice, each row shows a cassette's number and no height passes the depth, the walk meets no fault.
 use borrow.Author.Tests.{eq-eqb}
-use mathlib.Core.Bool.{false}
+use mathlib.Core.Bool.{true, false}
 use mathlib.Core.List.{List, [], _∷_, _++_, append-nil}
 use mathlib.Core.Path.{_≡_, refl, ap, _∙_}
 use Prim.Native.Nat.{ℕ, zero, suc, _+_, _*_, _≤_, _<_}
@@ -11,7 +11,7 @@ use lib.ListN.{getD}
 use Rattle.stacks.specs.Count.{count, one}
 use Rattle.stacks.proofs.Counts.{count-append, count-last, Below}
 use Rattle.stacks.proofs.Sums.{sum-none}
-use Rattle.marks.specs.Cassettes.{numbers, isBlank, Once, cassetteFault}
+use Rattle.marks.specs.Cassettes.{numbers, isBlank, isCassette, Once, cassetteFault}
 use Rattle.marks.proofs.Faulted.{first-none}
 use Rattle.marks.proofs.Takes.{taken-cassette, cassette-taken, once-more}
 use Rattle.lifts.specs.Lifting.{shown}
@@ -48,8 +48,8 @@ module _ (s : Store) where
       let f = first-none (shaftsFault s x) (shaftFault s x) e in
       rows-once (cassettesBelow s x) x (height s x) (not-too-high s x (f .1) .1) (walked-once x (f .0)) c r
 
-  -- where no cassette is 0 and none but the blank stands twice, no row has a fault
-  rows-pass : (before : List ℕ) (x k : ℕ) → ((j : ℕ) → j < k → slot s x (suc j) ≡ 0 → ⊥) → Once (before ++ upward s x k) → rowsFault before (s .slots) x k ≡ 0
+  -- where each row shows a cassette's number and none but the blank stands twice, no row has a fault
+  rows-pass : (before : List ℕ) (x k : ℕ) → ((j : ℕ) → j < k → isCassette (slot s x (suc j)) ≡ true) → Once (before ++ upward s x k) → rowsFault before (s .slots) x k ≡ 0
   unfolding rowsFault
   rows-pass before x zero n p = refl
   rows-pass before x (suc k) n p =
@@ -58,7 +58,7 @@ module _ (s : Store) where
       (cassette-taken (before ++ upward s x k) (slot s x (suc k)) (n k (omega arith)) (once-last _ _ q))
 
   -- and where besides no height passes the depth, no shaft has one
-  pub once-walks : (x : ℕ) → ((y : ℕ) → height s y ≤ depth s y) → ((y k : ℕ) → k < height s y → slot s y (suc k) ≡ 0 → ⊥)
+  pub once-walks : (x : ℕ) → ((y : ℕ) → height s y ≤ depth s y) → ((y k : ℕ) → k < height s y → isCassette (slot s y (suc k)) ≡ true)
       → Once (cassettesBelow s x) → shaftsFault s x ≡ 0
   unfolding shaftsFault cassettesBelow
   once-walks zero h n p = refl

@@ -10,18 +10,22 @@ use Rattle.lifts.specs.Lifting.{shown, placedAt}
 use Rattle.store.specs.declared.Store.{Store}
 use Rattle.store.specs.Slots.{height, slot, downward, stack}
 use Rattle.rows.specs.Rows.{rowsDown}
-use Rattle.store.proofs.Typed.{below-set}
+use Rattle.store.proofs.Typed.{each-set}
 
--- slots of which one row is written
-pub placed-numbered : (l : List ℕ) (x n c : ℕ) → c < numbers → ((i : ℕ) → getD l i 0 < numbers) → (i : ℕ) → getD (placedAt l x n c) i 0 < numbers
+-- what holds of 0 and of every number of the slots holds of what a row shows
+pub row-each : (P : ℕ → Type 0) (l : List ℕ) (x n : ℕ) → P 0 → ((i : ℕ) → P (getD l i 0)) → P (shown l x n)
+unfolding shown
+row-each P l x zero z b = z
+row-each P l x (suc k) z b = b (16 * x + k)
+
+-- and of slots of which one row is written
+pub placed-each : (P : ℕ → Type 0) (l : List ℕ) (x n c : ℕ) → P c → ((i : ℕ) → P (getD l i 0)) → (i : ℕ) → P (getD (placedAt l x n c) i 0)
 unfolding placedAt
-placed-numbered l x zero c h b = b
-placed-numbered l x (suc k) c h b = below-set l (16 * x + k) c h b
+placed-each P l x zero c h b = b
+placed-each P l x (suc k) c h b = each-set P l (16 * x + k) c h b
 
 pub slot-numbered : (s : Store) (x n : ℕ) → ((i : ℕ) → getD (s .slots) i 0 < numbers) → slot s x n < numbers
-unfolding shown
-slot-numbered s x zero b = omega arith
-slot-numbered s x (suc k) b = b (16 * x + k)
+slot-numbered s x n b = row-each (λ c. c < numbers) (s .slots) x n (omega arith) b
 
 pub downward-length : (s : Store) (x n : ℕ) → length (downward s x n) ≡ n
 unfolding rowsDown

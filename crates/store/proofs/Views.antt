@@ -5,18 +5,19 @@ use Prim.Native.Nat.{ℕ, suc, _+_, _-_, _/_, _%_, _≤_, _<_}
 use native.Mathlib.Decide.{decLt, ℕ-discrete}
 use native.Mathlib.Nat.{div-add-mod}
 use native.Mathlib.Omega.{arith}
-use lib.ListN.{length, set, length-set}
+use lib.ListN.{length, getD, set, length-set}
 use lib.Seq.{getD-set-same, getD-set-other, ext-getD}
 use Rattle.stacks.specs.Run.{Stacks, Lift, Step}
 use Rattle.stacks.specs.Moves.{lift}
 use Rattle.stacks.proofs.Sums.{everywhere}
+use Rattle.marks.specs.Cassettes.{numbers}
 use Rattle.lifts.specs.Lifting.{mostShafts, mostRows, slotCount, shown, placedAt}
 use Rattle.lifts.proofs.Moving.{placed-length, placed-same, placed-other}
 use Rattle.store.specs.declared.Store.{Store}
 use Rattle.store.specs.Slots.{depth, SameFrame, height, slot, downward, stack}
 use Rattle.store.specs.Lifts.{Allowed, lifted}
 use Rattle.store.specs.Sound.{Shaped}
-use Rattle.store.proofs.Rows.{placed-numbered, slot-numbered, stack-length, stack-top, same-rows, rows-same}
+use Rattle.store.proofs.Rows.{row-each, placed-each, stack-length, stack-top, same-rows, rows-same}
 
 -- Definition 3.2, slot by slot: the slot left is empty, the slot entered holds the cassette, every other slot is as it was, and so are the heights
 -- but for the two shafts.
@@ -52,6 +53,12 @@ lift-moves s a b p q =
 pub at-and-elsewhere : (P : ℕ → Type 0) (a b : ℕ) → P a → P b → ((x : ℕ) → (x ≡ a → ⊥) → (x ≡ b → ⊥) → P x) → (x : ℕ) → P x
 at-and-elsewhere P a b u v w = everywhere P a u (everywhere (λ x. (x ≡ a → ⊥) → P x) b (λ i. v) (λ x j i. w x i j))
 
+-- what holds of 0 and of every number of the slots holds of every number of the slots after a lift
+pub lifted-each : (P : ℕ → Type 0) (s : Store) (a b : ℕ) → P 0 → ((i : ℕ) → P (getD (s .slots) i 0)) → (i : ℕ) → P (getD (lifted s a b .slots) i 0)
+unfolding lifted
+lifted-each P s a b z h =
+    placed-each P (placedAt (s .slots) a (height s a) 0) b (suc (height s b)) _ (row-each P (s .slots) a (height s a) z h) (placed-each P (s .slots) a (height s a) 0 z h)
+
 -- after a lift nothing stands above the new heights
 pub lifted-shaped : (s : Store) (a b : ℕ) → Shaped s → Allowed s a b → Shaped (lifted s a b)
 unfolding lifted
@@ -62,7 +69,7 @@ lifted-shaped s a b p q =
       depths-sized = p .depths-sized;
       heights-sized = simp length-set (p .heights-sized);
       slots-sized = simp placed-length (p .slots-sized);
-      numbered = placed-numbered (placedAt (s .slots) a (height s a) 0) b (suc (height s b)) _ (slot-numbered s a (height s a) (p .numbered)) (placed-numbered (s .slots) a (height s a) 0 (omega arith) (p .numbered));
+      numbered = lifted-each (λ c. c < numbers) s a b (omega arith) (p .numbered);
       shafts = p .shafts;
       rows = p .rows;
       heights = at-and-elsewhere (λ x. height t x ≤ depth s x) a b (omega (arith, p .heights a)) (omega arith)

@@ -1,32 +1,25 @@
 -- When a store given as a value is accepted, and else which of the numbers 12, 3, 4, 5 refuses it (document 01, "Refused because of the input"), checked
 -- for 12, then for 3, 4 and 5 in image order (request 3/13). 0 is no fault.
-use mathlib.Core.Bool.{Bool, true, not, _&&_}
-use mathlib.Core.List.{List, [], _∷_}
+use mathlib.Core.Bool.{Bool, not, _&&_}
 use mathlib.Core.Path.{_≡_}
 use Prim.Native.Nat.{ℕ, zero, suc}
 use lib.ListN.{length}
 use lib.Dec.{ltb, eqb}
-use Rattle.marks.specs.Cassettes.{numbers, given, first}
+use Rattle.marks.specs.Cassettes.{given, first}
 use Rattle.lifts.specs.Lifting.{mostShafts, slotCount}
 use Rattle.in_place.specs.InPlace.{allBelow, rowsInPlace, arraysInPlace}
 use Rattle.rows.specs.Rows.{rowsFault}
 use Rattle.store.specs.declared.Store.{Store}
 use Rattle.store.specs.Slots.{depth, height, cassettesBelow}
 
--- every number of a list is one that a slot may show
-unfoldable pub allShown : List ℕ → Bool
-allShown [] = true
-allShown (c ∷ l) = ltb c numbers && allShown l
-
--- The arrays of a store value have 16, 16 and 256 places, and a slot holds a number 0 to 255. The types of the fields say so of every value that code can
--- hold; here it is said of every value.
-abbrev pub typed : Store → Bool
-typed s = ((eqb (length (s .depths)) mostShafts && eqb (length (s .heights)) mostShafts) && eqb (length (s .slots)) slotCount) && allShown (s .slots)
+-- The arrays of a store value have 16, 16 and 256 places. The types of the fields say so of every value that code can hold; here it is said of every value.
+abbrev pub sized : Store → Bool
+sized s = (eqb (length (s .depths)) mostShafts && eqb (length (s .heights)) mostShafts) && eqb (length (s .slots)) slotCount
 
 -- number 12 does not apply
 unfoldable pub inPlace : Store → Bool
-unfolding allBelow rowsInPlace allShown
-inPlace s = typed s && arraysInPlace (s .m) (s .depths) (s .heights) (s .slots)
+unfolding allBelow rowsInPlace
+inPlace s = sized s && arraysInPlace (s .m) (s .depths) (s .heights) (s .slots)
 
 -- 3, a height above the depth of its shaft (request 7/13), and then the faults of the rows
 abbrev pub shaftFault : Store → ℕ → ℕ

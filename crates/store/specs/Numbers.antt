@@ -3,7 +3,7 @@
 use Prim.Native.Nat.{ℕ}
 use Rattle.lifts.specs.Numbers.{refusalNumber}
 use Rattle.store.specs.declared.Fault.{Fault}
-use Rattle.store.specs.declared.Fault.the-variants.{OutOfPlace, TooHigh, NumberZero, Twice}
+use Rattle.store.specs.declared.Fault.the-variants.{OutOfPlace, TooHigh, NoCassette, Twice}
 use Rattle.store.specs.declared.Verdict.{Verdict}
 use Rattle.store.specs.declared.Verdict.the-variants.{Accepted, Refused}
 use Rattle.store.specs.declared.Answer.{Answer}
@@ -11,7 +11,7 @@ use Rattle.store.specs.declared.Answer.{Answer}
 abbrev pub faultNumber : Fault → ℕ
 faultNumber OutOfPlace = 12
 faultNumber TooHigh = 3
-faultNumber NumberZero = 4
+faultNumber NoCassette = 4
 faultNumber Twice = 5
 
 abbrev pub verdictNumber : Verdict → ℕ

@@ -44,8 +44,8 @@ fn check_shafts(
         }
         match take_rows(slots, x, rows as usize, marks) {
             Taken::Added => {}
-            Taken::NumberZero => {
-                return Verdict::Refused(Fault::NumberZero);
+            Taken::NoCassette => {
+                return Verdict::Refused(Fault::NoCassette);
             }
             Taken::Twice => {
                 return Verdict::Refused(Fault::Twice);

@@ -23,7 +23,7 @@ pub struct Store {
 pub enum Fault {
     OutOfPlace,
     TooHigh,
-    NumberZero,
+    NoCassette,
     Twice,
 }
 

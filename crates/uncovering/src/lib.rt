@@ -59,7 +59,7 @@ fn top_row(slots: &Slots, x: usize, rows: u8, number: u16) -> u8
     let mut top: u8 = 0;
     let mut k: u8 = 0;
     while k < rows {
-        let here = slot_at(slots, 16 * x + (k as usize)) as u16;
+        let here = slot_at(slots, 16 * x + (k as usize));
         k += 1;
         top = row_if(here == number, k, top);
     }

@@ -50,4 +50,5 @@ pub stands-spec : {M : Type 1} → statement M
 stands-spec =
     tie.close
     (tie.spec (λ c κs. search needs) returns (λ c. search needs) element-copy-out-if2 returns-2 element-copy-out-if3 returns-3
-    (λ c. search needs) (λ c. search needs) (λ c. search needs) (λ c. search needs) element-copy-out-result returns-4)
+    (λ c. search needs) (λ c. search needs) (λ c. search needs) (λ c. search needs)
+    (λ c. omega (arith, element-copy-out-result c)) element-copy-out-result returns-4)

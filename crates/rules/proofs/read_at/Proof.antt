@@ -27,5 +27,5 @@ returns-2 c =
 pub read-at-spec : {M : Type 1} → statement M
 read-at-spec =
     tie.close
-    (tie.spec (λ c. search needs) (λ c. search needs) element-copy-out-result returns (λ c. search needs) (λ c. search needs) add-place
-    element-copy-out-result-2 returns-2)
+    (tie.spec (λ c. search needs) (λ c. search needs) (λ c. omega (arith, element-copy-out-result c)) element-copy-out-result returns
+    (λ c. search needs) (λ c. search needs) add-place (λ c. omega (arith, element-copy-out-result-2 c)) element-copy-out-result-2 returns-2)

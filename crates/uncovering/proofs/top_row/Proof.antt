@@ -33,4 +33,5 @@ returns c = let all : c .before .loop .k ≡ c .before .before .args .rows = ome
 pub top-row-spec : {M : Type 1} → statement M
 top-row-spec =
     tie.close
-    (tie.spec Inv-loop μ-loop loop-holds (λ c. search needs) (λ c. search needs) (λ c. search needs) slot-at-requires (λ c. search needs) (λ c. search needs) (λ c κs. search needs) (λ c. search needs) loop-again returns)
+    (tie.spec Inv-loop μ-loop loop-holds (λ c. search needs) (λ c. search needs) (λ c. search needs) slot-at-requires (λ c. search needs)
+    (λ c κs. search needs) (λ c. search needs) loop-again returns)

@@ -18,7 +18,7 @@ use denote.RattleType.{RattleType, owns}
 use denote.Laws.{Is}
 use denote.Array.{Array, array-makes}
 use denote.Plain.{uint-makes}
-use denote.Builtin.{u8, usize}
+use denote.Builtin.{u8, u16, usize}
 use denote.Ref.{RefT, ShrRef, now, ptr-vals, shr-copy}
 use denote.Steps.{owned, nothing}
 use denote.Struct.Laws as LL
@@ -31,7 +31,7 @@ use Rattle.store.specs.Slots.{held}
 use Rattle.uncovering.specs.Promises.{Ready}
 use Rattle.orders.specs.Orders.{OrderIs}
 use Rattle.orders.specs.declared.Order.{Order}
-use Rattle.orders.proofs.Fields.{bytesVal}
+use Rattle.orders.proofs.Fields.{intsVal}
 use Rattle.orders.proofs.Order as S
 use Rattle.orders.proofs.Order.Laws as S′
 use Rattle.orders.proofs.answered as answered
@@ -45,7 +45,7 @@ abbrev pub HeightsOwn : Lft → RefT (List ℕ) → Fml
 HeightsOwn κ hs = ShrRef (named 0) κ (Array u8 16) .own hs (ptr-vals hs)
 
 abbrev pub SlotsOwn : Lft → RefT (List ℕ) → Fml
-SlotsOwn κ ss = ShrRef (named 0) κ (Array u8 256) .own ss (ptr-vals ss)
+SlotsOwn κ ss = ShrRef (named 0) κ (Array u16 256) .own ss (ptr-vals ss)
 
 -- an order's machine value has the type that the MIR has for it
 pub typed : {M : Type 1} (𝓤 : URA M) (H : Heap 𝓤) (A : Atoms 𝓤) → Given 𝓤 H A → (y : Order) (v : Val) → Is R y (v ∷ []) → Holds (hasTy S′.mir v) × WT v
@@ -56,7 +56,7 @@ abbrev pub passed : (κ : Lft) (m : ℕ) (ds : List ℕ) (e : ℕ) (hs ss : RefT
 passed κ m ds e hs ss y = (m, (ds, (e, (hs, (ss, (y, tt))))))
 
 abbrev passed-vals : (κ : Lft) (m : ℕ) (ds : List ℕ) (e : ℕ) (hs ss : RefT (List ℕ)) → Order → Vals answered.signature (κ, tt)
-passed-vals κ m ds e hs ss y = (vint w8 m ∷ [], (bytesVal ds ∷ [], (vint w64 e ∷ [], (ptr-vals hs, (ptr-vals ss, (S′.lowered y ∷ [], tt))))))
+passed-vals κ m ds e hs ss y = (vint w8 m ∷ [], (intsVal w8 ds ∷ [], (vint w64 e ∷ [], (ptr-vals hs, (ptr-vals ss, (S′.lowered y ∷ [], tt))))))
 
 module _ {M : Type 1} (𝓤 : URA M) (H : Heap 𝓤) (A : Atoms 𝓤) (at-mem : Memory → SProp 𝓤) (run : Routine → Fun 𝓤) where
   -- the contract that the proof cites
@@ -73,7 +73,7 @@ module _ {M : Type 1} (𝓤 : URA M) (H : Heap 𝓤) (A : Atoms 𝓤) (at-mem : 
   said κ m ds e hs ss y r = exE 𝓤 _ (λ ws. snd∗ 𝓤 (sem 𝓤 H A (lasts answered.ended (κ, tt) (passed κ m ds e hs ss y) ws)) (fact 𝓤 (OrderIs (held m ds (now hs) (now ss)) y r)))
 
 module _ {M : Type 1} (𝓤 : URA M) (H : Heap 𝓤) (A : Atoms 𝓤) (W : Given 𝓤 H A) (at-mem : Memory → SProp 𝓤) (run : Routine → Fun 𝓤) (κ : Lft) (q : Share) (m : ℕ) (ds : List ℕ) (e : ℕ) (hs ss : RefT (List ℕ))
-    (m-fits : m < 2 ^ 8) (ds-are : Is (Array u8 16) ds (bytesVal ds ∷ [])) (e-fits : e < 2 ^ 64) (ready : Ready (held m ds (now hs) (now ss)) e) (y : Order) where
+    (m-fits : m < 2 ^ 8) (ds-are : Is (Array u8 16) ds (intsVal w8 ds ∷ [])) (e-fits : e < 2 ^ 64) (ready : Ready (held m ds (now hs) (now ss)) e) (y : Order) where
   abbrev Heights : Fml
   Heights = HeightsOwn κ hs
 
@@ -84,14 +84,14 @@ module _ {M : Type 1} (𝓤 : URA M) (H : Heap 𝓤) (A : Atoms 𝓤) (W : Given
   to = bound-by 𝓤 H A at-mem run κ q m ds e hs ss y
 
   asked : ent 𝓤 (onEntry 𝓤 H A answered.signature (κ, tt) (q, tt) (passed κ m ds e hs ss y) (passed-vals κ m ds e hs ss y)) (Answered 𝓤 H A at-mem run .pre to)
-  asked = qed W ((‵ (flft κ q) ⊛ ‵ ftrue) ∷ ‵ (owns (u8 ∷ Array u8 16 ∷ usize ∷ ShrRef (named 0) κ (Array u8 16) ∷ ShrRef (named 0) κ (Array u8 256) ∷ R ∷ []) (passed κ m ds e hs ss y) (passed-vals κ m ds e hs ss y)) ∷ []) ∵ says ! ready $ frame ! $ done !
+  asked = qed W ((‵ (flft κ q) ⊛ ‵ ftrue) ∷ ‵ (owns (u8 ∷ Array u8 16 ∷ usize ∷ ShrRef (named 0) κ (Array u8 16) ∷ ShrRef (named 0) κ (Array u16 256) ∷ R ∷ []) (passed κ m ds e hs ss y) (passed-vals κ m ds e hs ss y)) ∷ []) ∵ says ! ready $ frame ! $ done !
 
   -- what the order owns, the token and copies of heights and slots give what the callee asks, and heights and slots are kept
   pub apart : ent 𝓤 (⋆ 𝓤 H A (‵ (R .own y (S′.lowered y ∷ [])) ∷ ‵ (flft κ q) ∷ ‵ Heights ∷ ‵ Slots ∷ [])) (sep 𝓤 (Answered 𝓤 H A at-mem run .pre to) (sep 𝓤 (sem 𝓤 H A Heights) (sem 𝓤 H A Slots)))
   apart =
       qed W (‵ (R .own y (S′.lowered y ∷ [])) ∷ ‵ (flft κ q) ∷ ‵ Heights ∷ ‵ Slots ∷ []) ∵
       move ! (2 ∷ []) $ use1 W (‵ Heights ⊛ ‵ Heights) (shr-copy 𝓤 H A W (named 0) κ (Array u8 16) .twice hs (ptr-vals hs)) $ split ! $
-      move ! (4 ∷ []) $ use1 W (‵ Slots ⊛ ‵ Slots) (shr-copy 𝓤 H A W (named 0) κ (Array u8 256) .twice ss (ptr-vals ss)) $ split ! $
+      move ! (4 ∷ []) $ use1 W (‵ Slots ⊛ ‵ Slots) (shr-copy 𝓤 H A W (named 0) κ (Array u16 256) .twice ss (ptr-vals ss)) $ split ! $
       -- [slots; slots; heights; heights; the order; the token]
       nothing ! $ move ! (5 ∷ 0 ∷ []) $ fjoin ! $ move ! (1 ∷ 0 ∷ []) $ fjoin ! $ move ! (2 ∷ 0 ∷ []) $ fjoin ! $
       owned ! usize (Is usize) (uint-makes 𝓤 H A W w64) e _ (refl, e-fits) $ fjoin ! $ owned ! (Array u8 16) (Is (Array u8 16)) (array-makes 𝓤 H A W u8 (uint-makes 𝓤 H A W w8) 16) ds _ ds-are $ fjoin ! $

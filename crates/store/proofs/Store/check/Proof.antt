@@ -3,10 +3,7 @@ use borrow.Author.Needs.{needs}
 use borrow.Author.Tests.{not-true, not-false}
 use mathlib.Core.Bool.{true}
 use mathlib.Core.Path.{_≡_, sym, ap, _∙_}
-use Prim.Native.Nat.{ℕ}
-use mir.Syntax.{w8}
-use mir.Val.{Fits}
-use lib.ListN.{length, getD}
+use lib.ListN.{length}
 use Rattle.lifts.specs.Lifting.{mostShafts, slotCount}
 use Rattle.store.specs.Accept.{inPlace}
 use Rattle.store.specs.Numbers.{verdictNumber}
@@ -23,8 +20,7 @@ tested c =
     let d : length (s .depths) ≡ mostShafts = search needs in
     let a : length (s .heights) ≡ mostShafts = search needs in
     let b : length (s .slots) ≡ slotCount = search needs in
-    let n : (i : ℕ) → Fits w8 (getD (s .slots) i 0) = λ i. search needs in
-    by-arrays s d a b (λ i. n i .fits) ∙ sym (c .arrays-in-place .ensures)
+    by-arrays s d a b ∙ sym (c .arrays-in-place .ensures)
 
 placed : (c : tie.Else1) → inPlace (c .before .before .before .before .before .before .before .args .self) ≡ true
 placed c = tested (c .before) ∙ not-false _ (c .if1 .left)

@@ -39,4 +39,4 @@ pub content-spec : {M : Type 1} → statement M
 content-spec =
     tie.close
     (tie.spec (λ c κs. search needs) returns (λ c. search needs) (λ c. search needs) (λ c. search needs) sub-result (λ c. search needs)
-    element-copy-out-result returns-2)
+    (λ c. search needs) element-copy-out-result returns-2)
