@@ -17,14 +17,16 @@ use Rattle.store.specs.Slots.{deepest, cassettesBelow, cassettes, cassetteCount
 use Rattle.marks.proofs.Faulted.{both-true}
 use Rattle.replay.proofs.Replays.{leads-replay}
 use Rattle.bits.specs.Fields.{bits, packed, bitsOf, bytesOf, nextField}
-use Rattle.image.specs.Image.{lengthIn, imageOf}
+use Rattle.image.specs.Coding.{coded}
+use Rattle.image.specs.Image.{cassetteWidth, lengthIn, imageIn, holds}
 use Rattle.image.specs.Reading.{Reading, readImage}
+use Rattle.image.specs.Writing.{writeRefusal}
 use Rattle.reach.specs.Pairs.{pairFault}
 use Rattle.reach.specs.Rules.{twoShaftReading, floor}
 use Rattle.reach.specs.Tests.{ruleTest}
 use Rattle.reach.proofs.RuleTests.{list-test, store-test, reachable-test}
 use Rattle.reach.proofs.Sets.{comparable}
-use Rattle.cases.specs.Claims.{Claim, liftGets, yesBy, unreachable, pairGets, spaceIs, readingGets, imageIs, imageBecomes, lengthIs, ClaimHolds, AllHold}
+use Rattle.cases.specs.Claims.{Claim, liftGets, yesBy, unreachable, pairGets, spaceIs, readingGets, imageIs, writingGets, lengthIs, ClaimHolds, AllHold}
 use Rattle.cases.specs.Table.{table}
 use Rattle.cases.specs.Tests.{readAlike, tested, allTested}
 
@@ -36,35 +38,33 @@ read-alike o q e =
     λ i. record { store = s i; number = n i }
 
 -- a claim that passes its test holds
-holds : (c : Claim) → tested c ≡ true → ClaimHolds c
+claim-holds : (c : Claim) → tested c ≡ true → ClaimHolds c
 unfolding tested
-holds (liftGets s a b k) e = eqb-true (liftNumber s a b) k e
-holds (yesBy s bs t) e =
+claim-holds (liftGets s a b k) e = eqb-true (liftNumber s a b) k e
+claim-holds (yesBy s bs t) e =
     let p = both-true (eqb (pairFault s t) 0) _ e in
     let q = both-true (eqb (replayFrom s bs .number) 0) _ (p .1) in (
       eqb-true (pairFault s t) 0 (p .0),
       subst (Leads s bs) (store-test (replayFrom s bs .reached) t .so (q .1)) (leads-replay s bs (eqb-true (replayFrom s bs .number) 0 (q .0))),
     )
-holds (unreachable s t) e =
+claim-holds (unreachable s t) e =
     let p = both-true (eqb (pairFault s t) 0) _ e in
     let f = eqb-true (pairFault s t) 0 (p .0) in
     (f, reachable-test s t (comparable s t f) .not-so (not-true (ruleTest s t) (p .1)))
-holds (pairGets s t k) e = eqb-true (pairFault s t) k e
-holds (spaceIs s k) e = eqb-true (listSpace s) k e
-holds (readingGets bytes k) e = read-alike _ _ e
-holds (imageIs bytes s) e =
+claim-holds (pairGets s t k) e = eqb-true (pairFault s t) k e
+claim-holds (spaceIs s k) e = eqb-true (listSpace s) k e
+claim-holds (readingGets bytes k) e = read-alike _ _ e
+claim-holds (imageIs f bytes s) e =
     let p = both-true (readAlike (readImage bytes) (record { store = s; number = 0 })) _ e in
-    (read-alike _ _ (p .0), list-test (imageOf s) bytes .so (p .1))
-holds (imageBecomes bytes s written) e =
-    let p = both-true (readAlike (readImage bytes) (record { store = s; number = 0 })) _ e in
-    (read-alike _ _ (p .0), list-test (imageOf s) written .so (p .1))
-holds (lengthIs f s k) e = eqb-true (lengthIn f s) k e
+    (read-alike _ _ (p .0), list-test (imageIn f s) bytes .so (p .1))
+claim-holds (writingGets f s room k) e = eqb-true (writeRefusal f s room) k e
+claim-holds (lengthIs f s k) e = eqb-true (lengthIn f s) k e
 
 all-hold : (cs : List Claim) → allTested cs ≡ true → AllHold cs
 unfolding allTested
 all-hold [] e = tt
-all-hold (c ∷ cs) e = let p = both-true (tested c) (allTested cs) e in (holds c (p .0), all-hold cs (p .1))
+all-hold (c ∷ cs) e = let p = both-true (tested c) (allTested cs) e in (claim-holds c (p .0), all-hold cs (p .1))
 
 pub cases : AllHold table
-unfolding allTested ruleTest pairFault liftNumber storeFault rowsFault cassetteFault isBlank shown placedAt refusalBy rowsUp rowsDown depthBy deepest sum greatest cassettesBelow cassettes cassetteCount count emptyCount listSpace floor twoShaftReading lifted liftRefusal replayFrom readImage nextField bitsOf imageOf bits packed bytesOf
+unfolding allTested ruleTest pairFault liftNumber storeFault rowsFault cassetteFault isBlank shown placedAt refusalBy rowsUp rowsDown depthBy deepest sum greatest cassettesBelow cassettes cassetteCount count emptyCount listSpace floor twoShaftReading lifted liftRefusal replayFrom readImage nextField bitsOf imageIn coded cassetteWidth writeRefusal holds bits packed bytesOf
 cases = all-hold table refl

@@ -8,8 +8,9 @@ use Rattle.store.specs.Slots.{listSpace}
 use Rattle.store.specs.Lifts.{liftNumber}
 use Rattle.store.specs.Lists.{Leads, Reachable}
 use Rattle.reach.specs.Pairs.{pairFault}
-use Rattle.image.specs.Image.{lengthIn, imageOf}
+use Rattle.image.specs.Image.{lengthIn, imageIn}
 use Rattle.image.specs.Reading.{refused, readImage}
+use Rattle.image.specs.Writing.{writeRefusal}
 
 -- a list with zeros after it, k numbers long
 abbrev pub padded : ℕ → List ℕ → List ℕ
@@ -45,10 +46,10 @@ pub data Claim : Type 0 where
   spaceIs : Store → ℕ → Claim
   -- an image is refused with a number
   readingGets : List ℕ → ℕ → Claim
-  -- an image is read as a store, which is written as that image
-  imageIs : List ℕ → Store → Claim
-  -- an image is read as a store, which is written as another image
-  imageBecomes : List ℕ → Store → List ℕ → Claim
+  -- an image is read as a store, which is written in a form as that image
+  imageIs : ℕ → List ℕ → Store → Claim
+  -- a store written in a form, into so many bytes, gets a number, 0 where it is written
+  writingGets : ℕ → Store → ℕ → ℕ → Claim
   -- the image of a store in a form has so many bytes
   lengthIs : ℕ → Store → ℕ → Claim
 
@@ -59,8 +60,8 @@ ClaimHolds (unreachable s t) = (pairFault s t ≡ 0) × (Reachable s t → ⊥)
 ClaimHolds (pairGets s t k) = pairFault s t ≡ k
 ClaimHolds (spaceIs s k) = listSpace s ≡ k
 ClaimHolds (readingGets bytes k) = readImage bytes ≡ refused k
-ClaimHolds (imageIs bytes s) = (readImage bytes ≡ record { store = s; number = 0 }) × (imageOf s ≡ bytes)
-ClaimHolds (imageBecomes bytes s written) = (readImage bytes ≡ record { store = s; number = 0 }) × (imageOf s ≡ written)
+ClaimHolds (imageIs f bytes s) = (readImage bytes ≡ record { store = s; number = 0 }) × (imageIn f s ≡ bytes)
+ClaimHolds (writingGets f s room k) = writeRefusal f s room ≡ k
 ClaimHolds (lengthIs f s k) = lengthIn f s ≡ k
 
 -- every claim of a list holds

@@ -1,11 +1,11 @@
--- The cases that document 01 marks to be proved, "Filled stores to try", some with blanks (request 5/13), and some with unequal depths (request 7/13), one row
--- for each claim.
+-- The cases that document 01 marks to be proved, "Filled stores to try", some with blanks (request 5/13), some with unequal depths (request 7/13), and some with
+-- numbers past 255 (request 8/13), one row for each claim.
 use mathlib.Core.List.{List, [], _∷_}
 use Prim.Native.Nat.{ℕ}
 use lib.ListN.{replicate}
 use Rattle.marks.specs.Cassettes.{blank}
 use Rattle.store.specs.declared.Store.{Store}
-use Rattle.cases.specs.Claims.{Claim, liftGets, yesBy, unreachable, pairGets, spaceIs, readingGets, imageIs, imageBecomes, lengthIs, unevenOf, storeOf}
+use Rattle.cases.specs.Claims.{Claim, liftGets, yesBy, unreachable, pairGets, spaceIs, readingGets, imageIs, writingGets, lengthIs, unevenOf, storeOf}
 
 -- "m 3, h 3, no cassette"
 abbrev pub bare : Store
@@ -118,6 +118,10 @@ twoUnevenShifted = unevenOf (3 ∷ 1 ∷ []) ((1 ∷ 2 ∷ 3 ∷ []) ∷ [] ∷ 
 abbrev pub twoUnevenTurned : Store
 twoUnevenTurned = unevenOf (3 ∷ 1 ∷ []) ((1 ∷ 3 ∷ 2 ∷ []) ∷ [] ∷ [])
 
+-- a cassette past 255
+abbrev pub past : Store
+past = storeOf 2 ((300 ∷ []) ∷ [])
+
 abbrev pub table : List Claim
 table =
     yesBy bare [] bare
@@ -135,7 +139,7 @@ table =
     ∷ liftGets (storeOf 1 ([] ∷ (1 ∷ []) ∷ [])) 0 1 13
     -- "Empty image: 2. The example with last byte 61: 7; without it: 2."
     ∷ readingGets [] 2
-    ∷ imageIs (0x02 ∷ 0x11 ∷ 0x00 ∷ 0x81 ∷ 0x00 ∷ 0x20 ∷ 0x60 ∷ []) example
+    ∷ imageIs 0 (0x02 ∷ 0x11 ∷ 0x00 ∷ 0x81 ∷ 0x00 ∷ 0x20 ∷ 0x60 ∷ []) example
     ∷ readingGets (0x02 ∷ 0x11 ∷ 0x00 ∷ 0x81 ∷ 0x00 ∷ 0x20 ∷ 0x61 ∷ []) 7
     ∷ readingGets (0x02 ∷ 0x11 ∷ 0x00 ∷ 0x81 ∷ 0x00 ∷ 0x20 ∷ []) 2
     -- one, two and three shafts with blanks
@@ -148,7 +152,7 @@ table =
     -- "number 9 compares how often each number stands"
     ∷ pairGets threeBlank threeBlankFewer 9
     -- "Number 5 no longer applies to it": two blanks, and two cassettes 254
-    ∷ imageIs (0x00 ∷ 0x11 ∷ 0x7F ∷ 0xFF ∷ 0x80 ∷ []) (storeOf 2 ((blank ∷ blank ∷ []) ∷ []))
+    ∷ imageIs 0 (0x00 ∷ 0x11 ∷ 0x7F ∷ 0xFF ∷ 0x80 ∷ []) (storeOf 2 ((blank ∷ blank ∷ []) ∷ []))
     ∷ readingGets (0x00 ∷ 0x11 ∷ 0x7F ∷ 0x7F ∷ 0x00 ∷ []) 5
     -- "A store may now hold 256 cassettes .. and the program lends 18,432 bytes"
     ∷ yesBy allBlank [] allBlank
@@ -167,12 +171,35 @@ table =
     ∷ liftGets (unevenOf (17 ∷ 1 ∷ []) ((1 ∷ 2 ∷ []) ∷ (3 ∷ []) ∷ [])) 1 0 12
     ∷ liftGets (unevenOf (3 ∷ 1 ∷ 1 ∷ []) ((1 ∷ 2 ∷ []) ∷ (3 ∷ []) ∷ [])) 1 0 12
     ∷ readingGets (0x11 ∷ 0x20 ∷ 0x00 ∷ 0x80 ∷ 0x40 ∷ 0x80 ∷ []) 3
-    -- an image in form 1, the example in form 1, which "becomes the form 0 image of that store"
-    ∷ imageIs (0x12 ∷ 0x21 ∷ 0x80 ∷ 0x81 ∷ 0x01 ∷ 0x88 ∷ 0x41 ∷ 0x04 ∷ 0x20 ∷ 0xA0 ∷ []) uneven
-    ∷ imageBecomes (0x12 ∷ 0x11 ∷ 0x00 ∷ 0x81 ∷ 0x08 ∷ 0x04 ∷ 0x20 ∷ 0x60 ∷ []) example (0x02 ∷ 0x11 ∷ 0x00 ∷ 0x81 ∷ 0x00 ∷ 0x20 ∷ 0x60 ∷ [])
-    -- "The longest image now has 275 bytes": 256 cassettes in form 1, and the same in form 0
+    -- an image in form 1
+    ∷ imageIs 1 (0x12 ∷ 0x21 ∷ 0x80 ∷ 0x81 ∷ 0x01 ∷ 0x88 ∷ 0x41 ∷ 0x04 ∷ 0x20 ∷ 0xA0 ∷ []) uneven
+    -- the same store in form 2, and the example in forms 1 and 2: "compared by what they mean", each "gives its own bytes" in its form
+    ∷ imageIs 2 (0x22 ∷ 0x21 ∷ 0x80 ∷ 0x08 ∷ 0x01 ∷ 0x00 ∷ 0x18 ∷ 0x84 ∷ 0x01 ∷ 0x04 ∷ 0x20 ∷ 0x0A ∷ []) uneven
+    ∷ imageIs 1 (0x12 ∷ 0x11 ∷ 0x00 ∷ 0x81 ∷ 0x08 ∷ 0x04 ∷ 0x20 ∷ 0x60 ∷ []) example
+    ∷ imageIs 2 (0x22 ∷ 0x11 ∷ 0x00 ∷ 0x08 ∷ 0x01 ∷ 0x08 ∷ 0x04 ∷ 0x20 ∷ 0x06 ∷ []) example
+    -- "an image may now have 403": 256 cassettes in form 2, and the same in forms 1 and 0
+    ∷ lengthIs 2 allBlank 403
     ∷ lengthIs 1 allBlank 275
     ∷ lengthIs 0 allBlank 268
-    -- "Number 1 now covers forms above 1"
-    ∷ readingGets (0x22 ∷ 0x11 ∷ 0x00 ∷ 0x81 ∷ 0x08 ∷ 0x04 ∷ 0x20 ∷ 0x60 ∷ []) 1
+    -- "in forms 0 and 1 the byte 255 is read as the blank, while in form 2 it is an ordinary cassette"
+    ∷ imageIs 1 (0x10 ∷ 0x11 ∷ 0x7F ∷ 0x7F ∷ 0x80 ∷ []) (storeOf 2 ((254 ∷ blank ∷ []) ∷ []))
+    ∷ imageIs 2 (0x20 ∷ 0x11 ∷ 0x07 ∷ 0xF7 ∷ 0xFF ∷ 0x80 ∷ []) (storeOf 2 ((254 ∷ blank ∷ []) ∷ []))
+    ∷ imageIs 2 (0x20 ∷ 0x11 ∷ 0x07 ∷ 0xFF ∷ 0xFF ∷ 0x80 ∷ []) (storeOf 2 ((255 ∷ blank ∷ []) ∷ []))
+    ∷ imageIs 2 (0x20 ∷ 0x11 ∷ 0x7F ∷ 0xFF ∷ 0xFF ∷ 0x80 ∷ []) (storeOf 2 ((blank ∷ blank ∷ []) ∷ []))
+    ∷ readingGets (0x20 ∷ 0x11 ∷ 0x07 ∷ 0xF8 ∷ 0x7F ∷ 0x80 ∷ []) 5
+    -- numbers that leave one remainder by 64 are different cassettes
+    ∷ imageIs 2 (0x20 ∷ 0x11 ∷ 0x02 ∷ 0x07 ∷ 0xE0 ∷ 0x00 ∷ []) (storeOf 2 ((64 ∷ 4032 ∷ []) ∷ []))
+    ∷ pairGets (storeOf 2 ((64 ∷ []) ∷ [])) (storeOf 2 ((4032 ∷ []) ∷ [])) 9
+    -- "Number 1 covers forms above 2, read or named for writing"
+    ∷ readingGets (0x32 ∷ 0x11 ∷ 0x00 ∷ 0x08 ∷ 0x01 ∷ 0x08 ∷ 0x04 ∷ 0x20 ∷ 0x06 ∷ []) 1
+    ∷ writingGets 3 example 500 1
+    -- "number 4 also covers a number above 4,095 in a store value", and "Writing tests the store, then 1, 18, 10"
+    ∷ writingGets 3 (storeOf 2 ((4096 ∷ []) ∷ [])) 500 4
+    ∷ writingGets 3 past 500 1
+    ∷ writingGets 1 past 500 18
+    ∷ writingGets 0 past 0 18
+    ∷ writingGets 2 past 500 0
+    ∷ writingGets 2 past 3 10
+    ∷ writingGets 0 uneven 500 18
+    ∷ writingGets 1 uneven 500 0
     ∷ []

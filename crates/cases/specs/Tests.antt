@@ -7,9 +7,10 @@ use Rattle.store.specs.Lifts.{liftNumber}
 use Rattle.replay.specs.Replaying.{replayFrom}
 use Rattle.reach.specs.Pairs.{sameList, pairFault}
 use Rattle.reach.specs.Tests.{sameStore, ruleTest}
-use Rattle.image.specs.Image.{lengthIn, imageOf}
+use Rattle.image.specs.Image.{lengthIn, imageIn}
 use Rattle.image.specs.Reading.{Reading, refused, readImage}
-use Rattle.cases.specs.Claims.{Claim, liftGets, yesBy, unreachable, pairGets, spaceIs, readingGets, imageIs, imageBecomes, lengthIs}
+use Rattle.image.specs.Writing.{writeRefusal}
+use Rattle.cases.specs.Claims.{Claim, liftGets, yesBy, unreachable, pairGets, spaceIs, readingGets, imageIs, writingGets, lengthIs}
 
 abbrev pub readAlike : Reading → Reading → Bool
 readAlike o q = eqb (o .number) (q .number) && sameStore (o .store) (q .store)
@@ -21,8 +22,8 @@ tested (unreachable s t) = eqb (pairFault s t) 0 && not (ruleTest s t)
 tested (pairGets s t k) = eqb (pairFault s t) k
 tested (spaceIs s k) = eqb (listSpace s) k
 tested (readingGets bytes k) = readAlike (readImage bytes) (refused k)
-tested (imageIs bytes s) = readAlike (readImage bytes) (record { store = s; number = 0 }) && sameList (imageOf s) bytes
-tested (imageBecomes bytes s written) = readAlike (readImage bytes) (record { store = s; number = 0 }) && sameList (imageOf s) written
+tested (imageIs f bytes s) = readAlike (readImage bytes) (record { store = s; number = 0 }) && sameList (imageIn f s) bytes
+tested (writingGets f s room k) = eqb (writeRefusal f s room) k
 tested (lengthIs f s k) = eqb (lengthIn f s) k
 
 -- every claim of a list passes its test

@@ -6,7 +6,8 @@ use Rattle.marks.specs.Marking.{Marked}
 use Rattle.lifts.specs.Lifting.{mostRows}
 use Rattle.store.specs.declared.Store.{Store}
 use Rattle.store.specs.Slots.{held}
-use Rattle.image.specs.Image.{frameWidth, heightWidth, cassetteWidth}
+use Rattle.image.specs.Image.{frameWidth, heightWidth, wideWidth}
+use Rattle.image.specs.Coding.{meant}
 use Rattle.image.specs.Reading.{Reading, Rest, Part, unless, takeCassette, readRows, readColumn, readShaft, readShafts}
 use Rattle.fields.specs.declared.Cursor.{Cursor}
 use Rattle.fields.specs.declared.Head.{Head}
@@ -29,7 +30,7 @@ going bytes w before c = unless (w .fault) (c before (w .store) (left bytes (w .
 
 -- the most bits that the rows of a shaft take, and that its depth, its height and its rows take
 abbrev pub columnMost : ℕ
-columnMost = cassetteWidth * mostRows
+columnMost = wideWidth * mostRows
 
 abbrev pub shaftMost : ℕ
 shaftMost = frameWidth + (heightWidth + columnMost)
@@ -45,20 +46,20 @@ pub record Reads (bytes : List ℕ) (part : Part) (far : ℕ) (w r : Work) : Typ
   pub after : (before : List ℕ) → Marked (w .words) before → After bytes part w r before
   pub within : r .at ≤ w .at + far
 
--- A cassette was taken into row k + 1 of shaft x, whatever the rest of the store is.
-pub record CassetteRead (x k : ℕ) (slots words : List ℕ) (c : Cursor) (slots′ words′ : List ℕ) (r : Cursor) : Type 0 where
+-- A cassette, read as a field of n bits, was taken into row k + 1 of shaft x, whatever the rest of the store is.
+pub record CassetteRead (n x k : ℕ) (slots words : List ℕ) (c : Cursor) (slots′ words′ : List ℕ) (r : Cursor) : Type 0 where
   pub reads : (bytes : List ℕ) (m : ℕ) (depths heights : List ℕ)
-      → Reads bytes (takeCassette x k (c .value)) 0 (state m depths heights slots words c) (state m depths heights slots′ words′ r)
+      → Reads bytes (takeCassette x k (meant n (c .value))) 0 (state m depths heights slots words c) (state m depths heights slots′ words′ r)
 
 -- The first rows of shaft x were read, each a field of n bits.
 pub record RowsRead (bytes : List ℕ) (n x rows : ℕ) (slots words : List ℕ) (c : Cursor) (slots′ words′ : List ℕ) (r : Cursor) : Type 0 where
   pub reads : (m : ℕ) (depths heights : List ℕ)
       → Reads bytes (readRows n x rows) (n * rows) (state m depths heights slots words c) (state m depths heights slots′ words′ r)
 
--- Shaft x, of depth d, was read from its height on, whatever the depths of the store are.
-pub record ColumnRead (bytes : List ℕ) (d x : ℕ) (heights slots words : List ℕ) (c : Cursor) (heights′ slots′ words′ : List ℕ) (r : Cursor) : Type 0 where
+-- Shaft x, of depth d, was read from its height on, its rows as fields of n bits, whatever the depths of the store are.
+pub record ColumnRead (bytes : List ℕ) (n d x : ℕ) (heights slots words : List ℕ) (c : Cursor) (heights′ slots′ words′ : List ℕ) (r : Cursor) : Type 0 where
   pub reads : (m : ℕ) (depths : List ℕ)
-      → Reads bytes (readColumn x d (c .value)) columnMost (state m depths heights slots words c) (state m depths heights′ slots′ words′ r)
+      → Reads bytes (readColumn n x d (c .value)) columnMost (state m depths heights slots words c) (state m depths heights′ slots′ words′ r)
 
 -- Shaft x was read, after this head.
 pub record ShaftRead (bytes : List ℕ) (h : Head) (x : ℕ) (depths heights slots words : List ℕ) (c : Cursor) (depths′ heights′ slots′ words′ : List ℕ) (r : Cursor) : Type 0 where

@@ -1,10 +1,13 @@
-// The shafts of an image (document 01, "The image"; document 02, 7/13: "for each shaft its depth − 1 (4 bits), height (5) and cassettes"), read into lent arrays.
+// The shafts of an image (document 01, "The image"; document 02, 7/13: "for each shaft its depth − 1 (4 bits), height (5) and cassettes", and 8/13), read into lent
+// arrays.
 use depths::Depths;
 use fields::Cursor;
 use fields::Head;
 use fields::field_if;
 use fields::next_field;
 use fields::stopped;
+use forms::cassette_width;
+use forms::meant;
 use forms::own_depths;
 use lifts::Heights;
 use lifts::Slots;
@@ -12,52 +15,60 @@ use marks::Taken;
 use marks::Words;
 use marks::take;
 ghost use Prim.Native.Nat.{_≤_, _<_};
-ghost use Rattle.marks.specs.Cassettes.{numbers};
 ghost use Rattle.lifts.specs.Lifting.{mostShafts, mostRows};
-ghost use Rattle.image.specs.Image.{cassetteWidth};
+ghost use Rattle.image.specs.Image.{wideWidth};
 ghost use Rattle.columns.specs.Columns.{CassetteRead, RowsRead, ColumnRead, ShaftRead, ShaftsRead};
 
-// The field just read is a cassette, at row k + 1 of shaft x.
-fn take_cassette(slots: &mut Slots, marks: &mut Words, c: Cursor, x: usize, k: usize) -> Cursor
-    requires { ⌜ (x < mostShafts) × (k < mostRows) × (c .value < numbers) ⌝ }
-    ensures { λ r. ⌜ CassetteRead x k (now (slots .entry)) (now (marks .entry)) c (now (slots .exit)) (now (marks .exit)) r ⌝ }
+// The field just read, of w bits, is a cassette, at row k + 1 of shaft x.
+fn take_cassette(
+    slots: &mut Slots,
+    marks: &mut Words,
+    c: Cursor,
+    w: usize,
+    x: usize,
+    k: usize,
+) -> Cursor
+    requires { ⌜ (x < mostShafts) × (k < mostRows) × (w ≤ wideWidth) ⌝ }
+    ensures { λ r. ⌜ CassetteRead w x k (now (slots .entry)) (now (marks .entry)) c (now (slots .exit)) (now (marks .exit)) r ⌝ }
 {
     if c.fault != 0 {
         return c;
     }
-    let v = c.value as u8;
+    let v = meant(w, c.value);
     match take(marks, v) {
         Taken::Added => {
             slots[16 * x + k] = v;
             c
         }
-        Taken::NumberZero => stopped(c, 4),
+        Taken::NoCassette => stopped(c, 4),
         Taken::Twice => stopped(c, 5),
     }
 }
 
-// The first rows of shaft x.
+// The first rows of shaft x, each a field of w bits.
 fn read_rows(
     image: &[u8],
     start: Cursor,
     slots: &mut Slots,
     marks: &mut Words,
+    w: usize,
     x: usize,
     rows: usize,
 ) -> Cursor
     requires { ⌜ (x < mostShafts) × (rows ≤ mostRows) × (start .at ≤ 8000) ⌝ }
-    ensures { λ r. ⌜ RowsRead (now (image .entry)) cassetteWidth x rows (now (slots .entry)) (now (marks .entry)) start (now (slots .exit)) (now (marks .exit)) r ⌝ }
+    requires { ⌜ (0 < w) × (w ≤ wideWidth) ⌝ }
+    ensures { λ r. ⌜ RowsRead (now (image .entry)) w x rows (now (slots .entry)) (now (marks .entry)) start (now (slots .exit)) (now (marks .exit)) r ⌝ }
 {
     let mut c = start;
     let mut k: usize = 0;
     while k < rows {
-        c = take_cassette(slots, marks, next_field(image, c, 8), x, k);
+        c = take_cassette(slots, marks, next_field(image, c, w), w, x, k);
         k += 1;
     }
     c
 }
 
-// The field just read is the height of shaft x, of depth d, and its rows come next.
+// The field just read is the height of shaft x, of depth d, and its rows come next, of w bits each.
 fn read_column(
     image: &[u8],
     c: Cursor,
@@ -65,11 +76,13 @@ fn read_column(
     heights: &mut Heights,
     slots: &mut Slots,
     marks: &mut Words,
+    w: usize,
     x: usize,
 ) -> Cursor
     requires { ⌜ (x < mostShafts) × (d ≤ mostRows) ⌝ }
     requires { ⌜ (c .at ≤ 8000) × (c .value < 256) ⌝ }
-    ensures { λ r. ⌜ ColumnRead (now (image .entry)) d x (now (heights .entry)) (now (slots .entry)) (now (marks .entry)) c (now (heights .exit)) (now (slots .exit)) (now (marks .exit)) r ⌝ }
+    requires { ⌜ (0 < w) × (w ≤ wideWidth) ⌝ }
+    ensures { λ r. ⌜ ColumnRead (now (image .entry)) w d x (now (heights .entry)) (now (slots .entry)) (now (marks .entry)) c (now (heights .exit)) (now (slots .exit)) (now (marks .exit)) r ⌝ }
 {
     if c.fault != 0 {
         return c;
@@ -79,7 +92,7 @@ fn read_column(
         return stopped(c, 3);
     }
     heights[x] = rows;
-    read_rows(image, c, slots, marks, x, rows as usize)
+    read_rows(image, c, slots, marks, w, x, rows as usize)
 }
 
 // Shaft x: its depth, where it has its own, its height, and its rows.
@@ -106,6 +119,7 @@ fn read_shaft(
         heights,
         slots,
         marks,
+        cassette_width(head.form),
         x,
     )
 }

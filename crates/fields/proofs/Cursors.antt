@@ -62,7 +62,7 @@ if-there f = record { found = f .found; same = f .same; small = f .small; within
 pub if-not : (bytes : List ℕ) (n v : ℕ) (c : Cursor) → v < 2 ^ n → FieldIfIs bytes false n v c (record { at = c .at; value = v; fault = c .fault })
 if-not bytes n v c h = record { found = λ z. record { none = z; value = refl; place = omega arith }; same = λ k. refl; small = h; within = omega arith }
 
--- "Number 1 now covers forms above 1" (document 02, 7/13)
+-- "Number 1 covers forms above 2" (document 02, 8/13)
 module _ (c : Cursor) (small : c .value < 2 ^ formWidth) where
   pub form-kept : (c .fault ≡ 0 → ⊥) → FormIs c c
   form-kept h = record { found = λ z. absurd (h z); same = λ l. both-refused (c .fault) _ _ h; small = small; place = refl }

@@ -7,7 +7,7 @@ ghost use mathlib.Core.Path.{_≡_};
 ghost use Prim.Native.Nat.{_^_, _≤_, _<_};
 ghost use lib.ListN.{drop};
 ghost use Rattle.bits.specs.Fields.{bitsOf};
-ghost use Rattle.image.specs.Image.{formWidth};
+ghost use Rattle.image.specs.Image.{formWidth, formIn};
 ghost use Rattle.image.specs.Reading.{padding};
 ghost use Rattle.fields.specs.Cursors.{FieldIs, FieldIfIs, FormIs, HeadIs, EndIs};
 
@@ -94,7 +94,7 @@ pub fn finished(image: &[u8], c: Cursor) -> Cursor
     c
 }
 
-// The field just read is the form: 1 for one above 1.
+// The field just read is the form: 1 for one above 2.
 fn check_form(c: Cursor) -> Cursor
     requires { ⌜ c .value < 2 ^ formWidth ⌝ }
     ensures { λ r. ⌜ FormIs c r ⌝ }
@@ -102,10 +102,20 @@ fn check_form(c: Cursor) -> Cursor
     if c.fault != 0 {
         return c;
     }
-    if c.value > 1 {
+    if c.value > 2 {
         return stopped(c, 1);
     }
     c
+}
+
+// The form that an image names: its first field.
+pub fn form_in(image: &[u8]) -> u8
+    ensures { λ r. ⌜ r ≡ formIn (now (image .entry)) ⌝ }
+{
+    match read_field(image, 0, 4) {
+        Field::Missing => 0,
+        Field::Value(v) => v as u8,
+    }
 }
 
 // The form that was read.

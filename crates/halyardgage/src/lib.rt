@@ -1,6 +1,7 @@
 // The calls for the controller's C program, on byte slices (document 01, "calls for the controller's C program on numbers and byte
 // slices") and on a row of orders (document 02, 1/13); the header is include/halyardgage.h. Each returns count × 256 + number.
 use calls::read_one;
+use convert_call::call_convert;
 use orders::Order;
 use orders::uncover;
 use pair_calls::call_plan;
@@ -8,6 +9,7 @@ use pair_calls::call_reachable;
 use replay_call::call_replay;
 ghost use mathlib.Core.Path.{_≡_};
 ghost use Rattle.calls.specs.Shared.{readFault};
+ghost use Rattle.convert_call.specs.ConvertCall.{ConvertCallIs};
 ghost use Rattle.halyardgage.specs.UncoverCall.{UncoverCallIs};
 ghost use Rattle.pair_calls.specs.PairCalls.{ReachCallIs, PlanCallIs};
 ghost use Rattle.replay_call.specs.ReplayCall.{ReplayCallIs};
@@ -37,7 +39,15 @@ pub extern "C" fn halyard_plan(start: &[u8], goal: &[u8], list: &mut [u8]) -> u6
     call_plan(start, goal, list)
 }
 
-// Plays a list on a store and writes the store reached, or nothing.
+// Writes the store of an image in the form named, or nothing.
+#[no_mangle]
+pub extern "C" fn halyard_convert(image: &[u8], form: u8, out: &mut [u8]) -> u64
+    ensures { λ r. ⌜ ConvertCallIs (now (image .entry)) form (now (out .entry)) r (now (out .exit)) ⌝ }
+{
+    call_convert(image, form, out)
+}
+
+// Plays a list on a store and writes the store reached, in the form of the image given, or nothing.
 #[no_mangle]
 pub extern "C" fn halyard_replay(image: &[u8], list: &[u8], out: &mut [u8]) -> u64
     ensures { λ r. ⌜ ReplayCallIs (now (image .entry)) (now (list .entry)) (now (out .entry)) r (now (out .exit)) ⌝ }

@@ -1,5 +1,6 @@
 pub mod Answered
 pub mod Carried
+pub mod Coding
 pub mod Cut
 pub mod Forms
 pub mod Lengths

@@ -12,6 +12,7 @@ use Rattle.bits.specs.Fields.{bitsOf, nextField}
 use Rattle.marks.proofs.Faulted.{given-either}
 use Rattle.marks.proofs.Takes.{cassette-either}
 use Rattle.store.specs.declared.Store.{Store}
+use Rattle.image.specs.Coding.{meant}
 use Rattle.image.specs.Image.{formWidth, frameWidth, heightWidth, cassetteWidth, lastForm, ownDepths}
 use Rattle.image.specs.Numbers.{ReadingGives}
 use Rattle.image.specs.Reading.{Reading, emptyStore, noDepths, unless, Rest, fromField, next, nextIf, deepened, raised, placed, readRow, readRows, readShaft, readShafts, padding, finish, readImage}
@@ -44,7 +45,7 @@ rows-give w x zero c h = h
 rows-give w x (suc k) c h =
     rows-give w x k (λ b s l. readRow w x k b s l c)
     (λ b s l. next-gives w l _ (λ v r.
-    unless-gives _ _ (cassette-either b v ReadingGives (inl (omega arith)) (inl (omega arith)) (inl (omega arith))) (h (b ++ (v ∷ [])) (placed s x k v) r)))
+    unless-gives _ _ (cassette-either b (meant w v) ReadingGives (inl (omega arith)) (inl (omega arith)) (inl (omega arith))) (h (b ++ (meant w v ∷ [])) (placed s x k (meant w v)) r)))
 
 shafts-give : (f v x : ℕ) (c : Rest) → GivesAfter c → GivesAfter (λ b s l. readShafts f v x b s l c)
 unfolding readShafts
@@ -52,7 +53,7 @@ shafts-give f v zero c h = h
 shafts-give f v (suc x) c h =
     shafts-give f v x (λ b s l. readShaft f v x b s l c)
     (λ b s l. if-gives (ownDepths f) frameWidth v l _ (λ u q. next-gives heightWidth q _ (λ k r.
-    unless-gives _ _ (given-either ReadingGives (ltb (u + 1) k) 3 (inl (omega arith)) (inl (omega arith))) (rows-give cassetteWidth x k c h b (raised (deepened s x (u + 1)) x k) r))))
+    unless-gives _ _ (given-either ReadingGives (ltb (u + 1) k) 3 (inl (omega arith)) (inl (omega arith))) (rows-give (cassetteWidth f) x k c h b (raised (deepened s x (u + 1)) x k) r))))
 
 end-gives : GivesAfter finish
 unfolding finish

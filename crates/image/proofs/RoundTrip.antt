@@ -1,42 +1,39 @@
--- The round trips (document 01, "The image"; document 02, 7/13). A store accepted, written and read is that store, in each form that can hold it. An accepted image
--- is the image of its store in the form that it names: so read and written it is those bytes, but for a form 1 image with equal depths, which becomes the form 0
--- image of that store.
+-- The round trips (document 01, "The image"; document 02, 8/13). A store accepted, written and read is that store, in each form that can hold it. An accepted image
+-- is the image of its store in the form that it names, which can hold it: so read, and written in that form, it is those bytes.
 use borrow.Author.Tests.{lt-ltb, le-ltb, ltb-true, ltb-false, eqb-true}
 use mathlib.Core.Bool.{Bool, true, false, cond, not}
 use mathlib.Core.List.{List, [], _++_, append-nil, append-assoc}
-use mathlib.Core.Logic.{_⊎_, inl, inr}
 use mathlib.Core.Path.{_≡_, refl, sym, ap, _∙_, subst}
-use Prim.Native.Nat.{ℕ, suc, _+_, _-_, _*_, _/_, _%_, _≤_, _<_}
-use native.Mathlib.Decide.{ℕ-discrete, decLt}
+use Prim.Native.Nat.{ℕ, suc, _+_, _-_, _*_, _/_, _%_, _^_, _≤_, _<_}
+use native.Mathlib.Decide.{decLt}
 use native.Mathlib.Omega.{arith}
-use lib.Dec.{ltb}
-use lib.ListN.{length, getD, drop, replicate, length-append}
+use lib.ListN.{length, getD, drop, length-append}
 use lib.Pow.{pow-pos}
 use lib.Seq.{take-all}
 use Rattle.bits.specs.Fields.{bits, field, bitsOf, byteCount}
 use Rattle.bits.proofs.Widths.{length-bits, length-packed, field-bits, field-lt, bits-field}
 use Rattle.bits.proofs.Bytes.{padded, bytes-agree, bytes-back, padded-agrees}
-use Rattle.marks.specs.Cassettes.{given}
+use Rattle.stacks.proofs.Deciding.{says-so}
+use Rattle.marks.specs.Cassettes.{numbers}
 use Rattle.marks.proofs.Faulted.{not-given, given-none, both-true}
 use Rattle.marks.proofs.MarkLaws.{zeros}
 use Rattle.lifts.specs.Lifting.{mostShafts, mostRows, slotCount, shown}
 use Rattle.depths.specs.Depths.{depthBy}
 use Rattle.store.specs.declared.Store.{Store}
 use Rattle.store.specs.Slots.{depth, height, slot, cassettes}
-use Rattle.store.specs.Accept.{allShown, shaftsFault, Accepted}
+use Rattle.store.specs.Accept.{shaftsFault, Accepted}
 use Rattle.store.specs.Sound.{Shaped, Sound}
-use Rattle.store.proofs.Acceptance.{accepted-sound}
+use Rattle.store.proofs.Acceptance.{accepted-sound, accepted-walks}
 use Rattle.store.proofs.InPlace.{shaped-in-place}
-use Rattle.store.proofs.Once.{once-walks}
-use Rattle.store.proofs.Typed.{shown-at}
 use Rattle.store.proofs.Verdicts.{by-shafts}
 use Rattle.store.proofs.Walk.{shaft-none, not-too-high}
-use Rattle.image.specs.Image.{formWidth, frameWidth, lastForm, ownDepths, fieldIf, headBits, shaftsBits, imageBits, lengthIn, imageIn, EqualDepths, formOf, imageLength, imageOf, formIn}
+use Rattle.image.specs.Coding.{codable}
+use Rattle.image.specs.Image.{formWidth, frameWidth, lastForm, formFault, ownDepths, fieldIf, cassetteWidth, headBits, shaftsBits, imageBits, lengthIn, imageIn, holds, formIn}
 use Rattle.image.specs.Reading.{Reading, emptyStore, noDepths, next, padding, endFault, finish, readBody, readDepth, readSize, readForm, readImage}
 use Rattle.image.proofs.Cut.{cut, cut-to, cut-all, low-zero, held-same}
 use Rattle.image.proofs.Nexts.{accepted, unless-accepted, next-reads, took, if-reads, took-if}
-use Rattle.image.proofs.Forms.{form-equal, form-unequal, form-known, form-holds}
-use Rattle.image.proofs.Lengths.{length-bytes, length-most}
+use Rattle.image.proofs.Coding.{codable-number, zero-codable}
+use Rattle.image.proofs.Forms.{Holds, holds-test, width-some, width-narrow}
 use Rattle.image.proofs.ReadBack.{shafts-back}
 use Rattle.image.proofs.WriteBack.{Low, Settled, Shafts, shafts-read}
 
@@ -71,14 +68,13 @@ finishes : (b : List ℕ) (s : Store) (l : List Bool) → padding l ≡ true →
 unfolding finish
 finishes b s l p = simp p
 
--- form 0 is the one in which the head has the depth
-not-own : (f : ℕ) → ownDepths f ≡ false → f ≡ 0
-not-own f z = omega (arith, ltb-false 0 f z)
-
 -- the image of a store accepted, in a form that can hold it, is read as that store
-module _ (f : ℕ) (s : Store) (e : Accepted s) (known : f ≤ lastForm) (equal : f ≡ 0 → EqualDepths s) where
+module _ (f : ℕ) (s : Store) (e : Accepted s) (known : f ≤ lastForm) (held : holds f s ≡ true) where
   p : Sound s
   p = accepted-sound s e
+
+  h : Holds f s
+  h = holds-test f s .so held
 
   -- what the head gives for the depth − 1 of all shafts
   v : ℕ
@@ -86,7 +82,7 @@ module _ (f : ℕ) (s : Store) (e : Accepted s) (known : f ≤ lastForm) (equal 
 
   common : ownDepths f ≡ false → (x : ℕ) → x < s .m → depth s x ≡ v + 1
   unfolding v
-  common z x h = rw z (equal (not-own f z) x h ∙ omega (arith, p .some-row 0 (p .some-shaft)))
+  common z x i = rw z (h .equal z x i ∙ omega (arith, p .some-row 0 (p .some-shaft)))
 
   pub image-read : readImage (imageIn f s) ≡ accepted s
   unfolding readImage imageIn imageBits headBits readBody cassettes v
@@ -102,14 +98,14 @@ module _ (f : ℕ) (s : Store) (e : Accepted s) (known : f ≤ lastForm) (equal 
       ∙ next-reads frameWidth (s .m - 1) (deep ++ (shafts ++ pad)) (readDepth f) (omega (arith, p .shaped .shafts))
       ∙ if-reads (not (ownDepths f)) frameWidth 0 (depth s 0 - 1) (shafts ++ pad) (λ u r. readBody f u (emptyStore (s .m - 1 + 1) noDepths) r) (omega (arith, p .shaped .rows 0))
       ∙ ap (λ (n : ℕ). readBody f v (emptyStore n noDepths) (shafts ++ pad)) m
-      ∙ shafts-back s (p .shaped) f v (p .some-row) common (s .m) pad finish (omega arith) (once-walks s (s .m) (p .shaped .heights) (p .no-gap) (p .once))
+      ∙ shafts-back s (p .shaped) f v (h .numbered) (p .some-row) common (s .m) pad finish (omega arith) (accepted-walks s e)
       ∙ finishes (cassettes s) (cut s (s .m) (16 * s .m)) pad (zeros-pad k (omega arith))
       ∙ ap accepted (whole s (p .shaped))
 
 -- what the end of a reading gives back
-finish-settles : (s : Store) (m : ℕ) (b : List ℕ) (t : Store) (l : List Bool) → Low m t → finish b t l ≡ accepted s → Settled s m t
+finish-settles : (w : ℕ) (s : Store) (m : ℕ) (b : List ℕ) (t : Store) (l : List Bool) → Low w m t → finish b t l ≡ accepted s → Settled s m t
 unfolding finish
-finish-settles s m b t l low e =
+finish-settles w s m b t l low e =
     let q : t ≡ s = ap (λ (r : Reading). r .store) (unless-accepted (endFault l) (accepted t) s e .1) in
     rw (← q) (record {
       same = sym (held-same (t .m) (low .depths) (low .heights) (low .slots));
@@ -132,8 +128,9 @@ record Body (f v : ℕ) (s : Store) (m : ℕ) (l : List Bool) : Type 0 where
   read : Shafts f v s (emptyStore m noDepths) m l finish
   pad : padding (read .left) ≡ true
   sound : Accepted s
+  codes : (i : ℕ) → codable (cassetteWidth f) (getD (s .slots) i 0) ≡ true
 
-module _ (s : Store) (m : ℕ) (few : m ≤ mostShafts) (same : s .m ≡ m) (low : Low m s)
+module _ (s : Store) (m : ℕ) (few : m ≤ mostShafts) (same : s .m ≡ m) (w : ℕ) (narrow : 2 ^ w ≤ numbers) (low : Low w m s)
     (above : (y k : ℕ) → y < m → height s y ≤ k → k < mostRows → slot s y (suc k) ≡ 0) (clean : shaftsFault s m ≡ 0) where
   low-shaped : Shaped s
   unfolding shown depthBy
@@ -141,7 +138,7 @@ module _ (s : Store) (m : ℕ) (few : m ≤ mostShafts) (same : s .m ≡ m) (low
     depths-sized = low .depths-sized;
     heights-sized = low .heights-sized;
     slots-sized = low .slots-sized;
-    numbered = low .numbered;
+    numbered = λ i. codable-number w (getD (s .slots) i 0) narrow (low .codes i);
     shafts = omega arith;
     rows = low .rows;
     heights = λ x. elim (decLt x m) [
@@ -157,28 +154,29 @@ module _ (s : Store) (m : ℕ) (few : m ≤ mostShafts) (same : s .m ≡ m) (low
 
 body-read : (f v : ℕ) → v < mostRows → (s : Store) (m : ℕ) (l : List Bool) → 0 < m → m ≤ mostShafts → readBody f v (emptyStore m noDepths) l ≡ accepted s
     → Body f v s m l
-unfolding readBody allShown depthBy
+unfolding readBody depthBy
 body-read f v rows s m l a few e =
-    let low : Low 0 (emptyStore m noDepths) = record {
+    let low : Low (cassetteWidth f) 0 (emptyStore m noDepths) = record {
       depths-sized = refl;
       heights-sized = refl;
       slots-sized = refl;
-      numbered = shown-at (replicate slotCount 0) refl;
+      codes = λ i. rw (zeros slotCount i) (zero-codable (cassetteWidth f) (width-some f));
       depths = refl;
       heights = refl;
       slots = refl;
       rows = λ x. omega (arith, zeros mostShafts x);
     } in
-    let p = shafts-read f v rows s (emptyStore m noDepths) m l finish few low (λ b t r. finish-settles s m b t r) e in
+    let p = shafts-read f v rows s (emptyStore m noDepths) m l finish few low (λ b t r. finish-settles (cassetteWidth f) s m b t r) e in
     let g = unless-accepted (endFault (p .left)) (accepted (cut s m (16 * m))) s (p .after) in
-    let all = subst (Low m) (ap (λ (r : Reading). r .store) (g .1)) (p .low) in
+    let all = subst (Low (cassetteWidth f) m) (ap (λ (r : Reading). r .store) (g .1)) (p .low) in
     let is : s .m ≡ m = ap (λ (u : Store). u .m) (sym (p .start)) in
     record {
       shafts = is;
       read = p;
       pad = not-given (padding (p .left)) 6 (g .0);
-      sound = by-shafts s (shaped-in-place s (low-shaped s m few is all (p .above) (p .clean)) (omega arith) (λ x i. p .deep x (omega arith)))
+      sound = by-shafts s (shaped-in-place s (low-shaped s m few is (cassetteWidth f) (width-narrow f) all (p .above) (p .clean)) (omega arith) (λ x i. p .deep x (omega arith)))
           ∙ ap (shaftsFault s) is ∙ p .clean;
+      codes = all .codes;
     }
 
 -- the fields before the shafts
@@ -207,7 +205,7 @@ image-bytes f s bytes left small e p =
 pub record ImageOf (bytes : List ℕ) (s : Store) : Type 0 where
   pub sound : Accepted s
   pub known : formIn bytes ≤ lastForm
-  pub equal : formIn bytes ≡ 0 → EqualDepths s
+  pub held : holds (formIn bytes) s ≡ true
   pub is : imageIn (formIn bytes) s ≡ bytes
 
 -- an accepted image is one of the store that it is read as
@@ -216,21 +214,24 @@ unfolding readImage formIn
 read-image bytes s small e =
     let l = drop formWidth (bitsOf bytes) in
     let f = took formWidth (bitsOf bytes) readForm s e in
-    let u = unless-accepted (given (ltb lastForm (f .v)) 1) (readSize (f .v) l) s (f .after) in
+    let u = unless-accepted (formFault (f .v)) (readSize (f .v) l) s (f .after) in
     let g = took frameWidth l (readDepth (f .v)) s (u .1) in
     let h = took-if (not (ownDepths (f .v))) frameWidth 0 (drop frameWidth l) (λ v r. readBody (f .v) v (emptyStore (g .v + 1) noDepths) r) s (pow-pos frameWidth) (g .after) in
     let m : g .v < 16 = rw (g .is .value) (field-lt _ frameWidth) in
     let b = body-read (f .v) (h .u) (h .small) s (g .v + 1) (h .left) (omega arith) (omega arith) (h .after) in
     named (f .v) (f .is .value) (b .sound) (ltb-false lastForm (f .v) (given-none _ 0 (u .0)))
-    (λ z x i.
-    let own : ownDepths (f .v) ≡ false = rw z in
-    b .read .common own x (omega (arith, b .shafts)) ∙ sym (b .read .common own 0 (omega arith)))
+    (record { equal = λ z x i. b .read .common z x (omega (arith, b .shafts)) ∙ sym (b .read .common z 0 (omega arith)); numbered = λ i h. b .codes i })
     (image-bytes (f .v) s bytes (b .read .left) small
     (head-begins (f .v) s (g .v) (h .u) _ _ _ _ (b .read .left) (b .shafts) (λ z. b .read .common z 0 (omega arith)) (f .is .begins) (g .is .begins) (h .begins) (b .read .begins))
     (b .pad))
   where
-    named : (f : ℕ) → f ≡ formIn bytes → Accepted s → f ≤ lastForm → (f ≡ 0 → EqualDepths s) → imageIn f s ≡ bytes → ImageOf bytes s
-    named f e a k q is = record { sound = a; known = omega arith; equal = λ z. q (e ∙ z); is = ap (λ (k : ℕ). imageIn k s) (sym e) ∙ is }
+    named : (f : ℕ) → f ≡ formIn bytes → Accepted s → f ≤ lastForm → Holds f s → imageIn f s ≡ bytes → ImageOf bytes s
+    named f e a k h is = record {
+      sound = a;
+      known = omega arith;
+      held = ap (λ (k : ℕ). holds k s) (sym e) ∙ says-so (holds f s) (holds-test f s) h;
+      is = ap (λ (k : ℕ). imageIn k s) (sym e) ∙ is;
+    }
 
 -- the form that an image names is its form
 pub image-form : (f : ℕ) (s : Store) → f ≤ lastForm → formIn (imageIn f s) ≡ f
@@ -241,50 +242,6 @@ image-form f s h =
     let e : imageBits f s ++ bits k 0 ≡ bits formWidth f ++ rest = simp append-assoc in
     ap (λ (l : List Bool). field l formWidth) (padded (imageBits f s) k (omega arith) ∙ e) ∙ field-bits formWidth f rest (omega arith)
 
--- a store accepted, written and read is that store
-pub written-read : (s : Store) → Accepted s → readImage (imageOf s) ≡ accepted s
-unfolding imageOf
-written-read s e = image-read (formOf s) s e (form-known s) (form-holds s)
-
--- "a form 1 image with equal depths"
-abbrev pub Rewritten : List ℕ → Store → Type 0
-Rewritten bytes s = (formIn bytes ≡ 1) × EqualDepths s
-
-module _ (bytes : List ℕ) (s : Store) (i : ImageOf bytes s) where
-  -- "every other accepted image still gives its own bytes"
-  pub own-bytes : (Rewritten bytes s → ⊥) → imageOf s ≡ bytes
-  unfolding imageOf
-  own-bytes n = ap (λ (f : ℕ). imageIn f s) (elim (ℕ-discrete (formIn bytes) 0) [
-    | yes z ↦ form-equal s (i .equal z) ∙ sym z
-    | no z ↦ (let one : formIn bytes ≡ 1 = omega (arith, i .known) in form-unequal s (λ p. n (one, p)) ∙ sym one)
-  ]) ∙ i .is
-
-  -- such an image "becomes the form 0 image of that store", which is another
-  pub other-bytes : Rewritten bytes s → (imageOf s ≡ imageIn 0 s) × (imageOf s ≡ bytes → ⊥)
-  unfolding imageOf
-  other-bytes r =
-      let z = ap (λ (f : ℕ). imageIn f s) (form-equal s (r .1)) in
-      (z, λ e. absurd (omega (arith, r .0, ap formIn (sym e ∙ z), image-form 0 s (omega arith))))
-
-  -- what is written is no longer than the image given
-  pub no-longer : imageLength s ≤ length bytes
-  unfolding imageIn imageLength
-  no-longer =
-      let n : length bytes ≡ lengthIn (formIn bytes) s = sym (ap length (i .is)) ∙ length-bytes (lengthIn (formIn bytes) s) _ in
-      elim (ℕ-discrete (formIn bytes) 0) [
-        | yes z ↦ omega (arith, ap (λ (f : ℕ). lengthIn f s) (form-equal s (i .equal z) ∙ sym z))
-        | no z ↦ (let one : formIn bytes ≡ 1 = omega (arith, i .known) in omega (arith, ap (λ (f : ℕ). lengthIn f s) one, length-most (formOf s) s (form-known s) (accepted-sound s (i .sound) .some-shaft)))
-      ]
-
 -- no two images in one form stand for one store
 pub one-image : (a b : List ℕ) (s : Store) → ImageOf a s → ImageOf b s → formIn a ≡ formIn b → a ≡ b
 one-image a b s p q e = sym (p .is) ∙ ap (λ (f : ℕ). imageIn f s) e ∙ q .is
-
--- two other images that stand for one store: one of them is a form 1 image with equal depths
-pub two-images : (a b : List ℕ) (s : Store) → ImageOf a s → ImageOf b s → (a ≡ b → ⊥) → Rewritten a s ⊎ Rewritten b s
-two-images a b s p q n =
-    let other : formIn a ≡ formIn b → ⊥ = λ e. n (one-image a b s p q e) in
-    elim (ℕ-discrete (formIn a) 0) [
-      | yes z ↦ inr (omega (arith, q .known), p .equal z)
-      | no z ↦ inl (omega (arith, p .known), q .equal (omega (arith, p .known, q .known)))
-    ]

@@ -1,16 +1,16 @@
 -- An accepted reading: the bits read are those of the store that it gives, and the store has no fault. Each part of the reading is taken back in turn.
 use borrow.Author.Tests.{ltb-false}
-use mathlib.Core.Bool.{Bool, false}
+use mathlib.Core.Bool.{Bool, true, false}
 use mathlib.Core.List.{List, [], _∷_, _++_, append-nil, append-assoc}
 use mathlib.Core.Path.{_≡_, refl, sym, ap, _∙_, subst, subst⁻¹}
 use Prim.Native.Nat.{ℕ, zero, suc, _+_, _-_, _*_, _^_, _≤_, _<_}
 use native.Mathlib.Decide.{decLt}
-use native.Mathlib.Nat.{add-suc, add-zero, mul-suc, not-suc-le-zero, lt-of-lt-of-le}
+use native.Mathlib.Nat.{add-suc, add-zero, mul-suc, not-suc-le-zero}
 use native.Mathlib.Omega.{arith}
 use lib.ListN.{length, getD, set, length-set, drop}
 use lib.Seq.{getD-set-same, getD-set-other}
 use Rattle.bits.specs.Fields.{bits, packed}
-use Rattle.bits.proofs.Widths.{packed-append, field-lt}
+use Rattle.bits.proofs.Widths.{field-lt}
 use Rattle.marks.specs.Cassettes.{numbers, cassetteFault}
 use Rattle.marks.proofs.Faulted.{given-none}
 use Rattle.lifts.specs.Lifting.{mostShafts, mostRows, slotCount, heightIn, shown}
@@ -19,20 +19,23 @@ use Rattle.store.specs.declared.Store.{Store}
 use Rattle.store.specs.Slots.{held, depth, height, slot, upward, cassettesBelow}
 use Rattle.rows.specs.Rows.{rowsUp, rowsFault}
 use Rattle.store.specs.Accept.{shaftsFault}
-use Rattle.store.proofs.Typed.{below-set}
+use Rattle.store.proofs.Typed.{each-set}
 use Rattle.rows.proofs.Walk.{row-passed}
 use Rattle.store.proofs.Walk.{shaft-passed, by-rows}
+use Rattle.image.specs.Coding.{meant, coded, codable, cassetteBits}
 use Rattle.image.specs.Image.{frameWidth, heightWidth, cassetteWidth, ownDepths, fieldIf, columnBits, columnsBits, shaftBits, shaftsBits}
 use Rattle.image.specs.Reading.{Rest, deepened, raised, takeCassette, readRow, readRows, readColumn, readHeight, readShaft, readShafts}
+use Rattle.image.proofs.Coding.{coded-meant, meant-codable, cassettes-append}
+use Rattle.image.proofs.Forms.{width-narrow}
 use Rattle.image.proofs.Cut.{cutAt, cut, cut-below, cut-before, cut-cut, low-set, low-to, low-zero, rows-agree, held-same}
 use Rattle.image.proofs.Nexts.{accepted, unless-accepted, took, took-if}
 
--- nothing stands in shaft x or after it
-pub record Low (x : ℕ) (t : Store) : Type 0 where
+-- nothing stands in shaft x or after it, and each number has a value of w bits
+pub record Low (w x : ℕ) (t : Store) : Type 0 where
   pub depths-sized : length (t .depths) ≡ mostShafts
   pub heights-sized : length (t .heights) ≡ mostShafts
   pub slots-sized : length (t .slots) ≡ slotCount
-  pub numbered : (i : ℕ) → getD (t .slots) i 0 < numbers
+  pub codes : (i : ℕ) → codable w (getD (t .slots) i 0) ≡ true
   pub depths : cutAt mostShafts x (t .depths) ≡ t .depths
   pub heights : cutAt mostShafts x (t .heights) ≡ t .heights
   pub slots : cutAt slotCount (16 * x) (t .slots) ≡ t .slots
@@ -55,22 +58,23 @@ record Rows (n : ℕ) (s : Store) (x k : ℕ) (b : List ℕ) (t : Store) (l : Li
   slots : List ℕ
   left : List Bool
   after : c (b ++ rowsUp slots x k) (holding t slots) left ≡ accepted s
-  begins : l ≡ packed n (rowsUp slots x k) ++ left
+  begins : l ≡ cassetteBits n (rowsUp slots x k) ++ left
   sized : length slots ≡ slotCount
-  numbered : (i : ℕ) → getD slots i 0 < numbers
+  codes : (i : ℕ) → codable n (getD slots i 0) ≡ true
   low : cutAt slotCount (16 * x + k) slots ≡ slots
   under : cutAt slotCount (16 * x) slots ≡ t .slots
   clean : rowsFault b slots x k ≡ 0
 
--- fields of n bits hold nothing but numbers that a slot may show
+-- fields of n bits, which have no number that no slot may show
 module _ (n : ℕ) (narrow : 2 ^ n ≤ numbers) (s : Store) (x : ℕ) (below : x < mostShafts) (b : List ℕ) (t : Store) (l : List Bool)
-    (sized : length (t .slots) ≡ slotCount) (numbered : (i : ℕ) → getD (t .slots) i 0 < numbers) (low : cutAt slotCount (16 * x) (t .slots) ≡ t .slots) where
+    (sized : length (t .slots) ≡ slotCount) (codes : (i : ℕ) → codable n (getD (t .slots) i 0) ≡ true) (low : cutAt slotCount (16 * x) (t .slots) ≡ t .slots) where
   one-row : (k : ℕ) (c : Rest) → k < mostRows → Rows n s x k b t l (λ d u r. readRow n x k d u r c) → Rows n s x (suc k) b t l c
   unfolding rowsUp shown packed
   one-row k c h r =
       let up = rowsUp (r .slots) x k in
-      let f = took n (r .left) (λ v q. takeCassette x k v (b ++ up) (holding t (r .slots)) q c) s (r .after) in
-      let v = f .v in
+      let f = took n (r .left) (λ v q. takeCassette x k (meant n v) (b ++ up) (holding t (r .slots)) q c) s (r .after) in
+      let small : f .v < 2 ^ n = rw (f .is .value) (field-lt _ n) in
+      let v = meant n (f .v) in
       let p = unless-accepted (cassetteFault (b ++ up) v) _ s (f .after) in
       let i = 16 * x + k in
       let new = set (r .slots) i v in
@@ -81,9 +85,9 @@ module _ (n : ℕ) (narrow : 2 ^ n ≤ numbers) (s : Store) (x : ℕ) (below : x
         slots = new;
         left = drop n (r .left);
         after = cc (append-assoc b up (v ∷ []), p .1);
-        begins = cc (r .begins, f .is .begins, packed-append n up (v ∷ []), append-nil (bits n v), append-assoc (packed n up) (bits n v) (drop n (r .left)));
+        begins = cc (r .begins, f .is .begins, coded-meant n (f .v) small narrow, cassettes-append n up (v ∷ []), append-nil (bits n (coded n v)), append-assoc (cassetteBits n up) (bits n (coded n v)) (drop n (r .left)));
         sized = length-set (r .slots) i v ∙ r .sized;
-        numbered = below-set (r .slots) i v (lt-of-lt-of-le (rw (f .is .value) (field-lt _ n)) narrow) (r .numbered);
+        codes = each-set (λ c. codable n c ≡ true) (r .slots) i v (meant-codable n (f .v) small) (r .codes);
         low = rw add-suc (low-set slotCount (r .slots) i v (r .sized) (omega arith) (r .low));
         under = cut-before slotCount (r .slots) (r .sized) (16 * x) i v (omega arith) ∙ r .under;
         clean = row-passed b new x k (faults-agree b new (r .slots) x k kept ∙ r .clean) (rw (same, top) (p .0));
@@ -97,7 +101,7 @@ module _ (n : ℕ) (narrow : 2 ^ n ≤ numbers) (s : Store) (x : ℕ) (below : x
     after = rw append-nil e;
     begins = refl;
     sized = sized;
-    numbered = numbered;
+    codes = codes;
     low = rw add-zero low;
     under = low;
     clean = refl;
@@ -110,7 +114,7 @@ pub record Column (f v : ℕ) (s : Store) (x : ℕ) (b : List ℕ) (t : Store) (
   pub left : List Bool
   pub after : c (b ++ upward then x (height then x)) then left ≡ accepted s
   pub begins : l ≡ shaftBits f then x ++ left
-  pub low : Low (suc x) then
+  pub low : Low (cassetteWidth f) (suc x) then
   pub under : t ≡ cut then x (16 * x)
   pub deep : 0 < depth then x
   pub common : ownDepths f ≡ false → depth then x ≡ v + 1
@@ -120,28 +124,28 @@ pub record Column (f v : ℕ) (s : Store) (x : ℕ) (b : List ℕ) (t : Store) (
 
 -- the fields of a shaft, one after the other
 column-begins : (f : ℕ) (depths heights slots : List ℕ) (x u k : ℕ) (l q r left : List Bool) → depthBy depths x ≡ u + 1 → heightIn heights x ≡ k
-    → l ≡ fieldIf (ownDepths f) frameWidth u ++ q → q ≡ bits heightWidth k ++ r → r ≡ packed cassetteWidth (rowsUp slots x k) ++ left → l ≡ columnBits f depths heights slots x ++ left
+    → l ≡ fieldIf (ownDepths f) frameWidth u ++ q → q ≡ bits heightWidth k ++ r → r ≡ cassetteBits (cassetteWidth f) (rowsUp slots x k) ++ left → l ≡ columnBits f depths heights slots x ++ left
 unfolding columnBits
 column-begins f depths heights slots x u k l q r left d h el eq er =
     let e : depthBy depths x - 1 ≡ u = omega arith in
     let there = fieldIf (ownDepths f) frameWidth u in
-    let up = packed cassetteWidth (rowsUp slots x k) in
+    let up = cassetteBits (cassetteWidth f) (rowsUp slots x k) in
     el ∙ ap (λ (z : List Bool). there ++ z) (eq ∙ ap (λ (z : List Bool). bits heightWidth k ++ z) er)
     ∙ sym (rw (e, h) (append-assoc (there ++ bits heightWidth k) up left ∙ append-assoc there (bits heightWidth k) (up ++ left)))
 
-shaft-read : (f v : ℕ) → v < mostRows → (s : Store) (x : ℕ) (b : List ℕ) (t : Store) (l : List Bool) (c : Rest) → x < mostShafts → Low x t
+shaft-read : (f v : ℕ) → v < mostRows → (s : Store) (x : ℕ) (b : List ℕ) (t : Store) (l : List Bool) (c : Rest) → x < mostShafts → Low (cassetteWidth f) x t
     → readShaft f v x b t l c ≡ accepted s → Column f v s x b t l c
 unfolding readColumn shown depthBy
 shaft-read f v few s x b t l c below low e =
-    let g = took-if (ownDepths f) frameWidth v l (λ u r. readHeight x (u + 1) b (deepened t x (u + 1)) r c) s few e in
+    let g = took-if (ownDepths f) frameWidth v l (λ u r. readHeight (cassetteWidth f) x (u + 1) b (deepened t x (u + 1)) r c) s few e in
     let d = g .u + 1 in
     let u = deepened t x d in
-    let i = took heightWidth (g .left) (λ k q. readColumn x d k b u q c) s (g .after) in
+    let i = took heightWidth (g .left) (λ k q. readColumn (cassetteWidth f) x d k b u q c) s (g .after) in
     let k = i .v in
     let p = unless-accepted _ _ s (i .after) in
     let h : k ≤ d = ltb-false d k (given-none _ 2 (p .0)) in
     let n : k ≤ mostRows = omega (arith, g .small) in
-    let r = rows-read cassetteWidth (omega arith) s x below b (raised u x k) (drop heightWidth (g .left)) (low .slots-sized) (low .numbered) (low .slots) k c n (p .1) in
+    let r = rows-read (cassetteWidth f) (width-narrow f) s x below b (raised u x k) (drop heightWidth (g .left)) (low .slots-sized) (low .codes) (low .slots) k c n (p .1) in
     let new = holding (raised u x k) (r .slots) in
     let is : height new x ≡ k = getD-set-same (t .heights) x k 0 (omega (arith, low .heights-sized)) in
     let are : depth new x ≡ d = getD-set-same (t .depths) x d 0 (omega (arith, low .depths-sized)) in
@@ -154,11 +158,11 @@ shaft-read f v few s x b t l c below low e =
         depths-sized = length-set (t .depths) x d ∙ low .depths-sized;
         heights-sized = length-set (t .heights) x k ∙ low .heights-sized;
         slots-sized = r .sized;
-        numbered = r .numbered;
+        codes = r .codes;
         depths = low-set mostShafts (t .depths) x d (low .depths-sized) below (low .depths);
         heights = low-set mostShafts (t .heights) x k (low .heights-sized) below (low .heights);
         slots = low-to slotCount (r .slots) (16 * x + k) (16 * suc x) (r .sized) (omega (arith, mul-suc 16 x)) (omega (arith, mul-suc 16 x)) (r .low);
-        rows = λ y. omega (arith, below-set {n = 17} (t .depths) x d (omega (arith, g .small)) (λ j. omega (arith, low .rows j)) y);
+        rows = each-set (λ n. n ≤ mostRows) (t .depths) x d (omega (arith, g .small)) (low .rows);
       };
       under = sym (held-same (t .m) (cut-before mostShafts (t .depths) (low .depths-sized) x x d (omega arith) ∙ low .depths)
           (cut-before mostShafts (t .heights) (low .heights-sized) x x k (omega arith) ∙ low .heights) (r .under));
@@ -177,10 +181,10 @@ pub record Settled (s : Store) (x : ℕ) (t : Store) : Type 0 where
   pub slots-sized : length (s .slots) ≡ slotCount
 
 -- whatever c is given below shaft x, and accepts as s, is what s has there
-abbrev pub Settles : Store → ℕ → Rest → Type 0
-Settles s x c = (b : List ℕ) (t : Store) (l : List Bool) → Low x t → c b t l ≡ accepted s → Settled s x t
+abbrev pub Settles : ℕ → Store → ℕ → Rest → Type 0
+Settles w s x c = (b : List ℕ) (t : Store) (l : List Bool) → Low w x t → c b t l ≡ accepted s → Settled s x t
 
-settles-before : (f v : ℕ) → v < mostRows → (s : Store) (x : ℕ) (c : Rest) → x < mostShafts → Settles s (suc x) c → Settles s x (λ b t l. readShaft f v x b t l c)
+settles-before : (f v : ℕ) → v < mostRows → (s : Store) (x : ℕ) (c : Rest) → x < mostShafts → Settles (cassetteWidth f) s (suc x) c → Settles (cassetteWidth f) s x (λ b t l. readShaft f v x b t l c)
 settles-before f v few s x c below after b t l low e =
     let r = shaft-read f v few s x b t l c below low e in
     let q = after _ (r .then) (r .left) (r .low) (r .after) in
@@ -198,7 +202,7 @@ pub record Shafts (f v : ℕ) (s t : Store) (x : ℕ) (l : List Bool) (c : Rest)
   pub left : List Bool
   pub after : c (cassettesBelow s x) (cut s x (16 * x)) left ≡ accepted s
   pub begins : l ≡ shaftsBits f s x ++ left
-  pub low : Low x (cut s x (16 * x))
+  pub low : Low (cassetteWidth f) x (cut s x (16 * x))
   pub start : t ≡ cut s 0 0
   pub deep : (y : ℕ) → y < x → 0 < depth s y
   pub common : ownDepths f ≡ false → (y : ℕ) → y < x → depth s y ≡ v + 1
@@ -206,7 +210,7 @@ pub record Shafts (f v : ℕ) (s t : Store) (x : ℕ) (l : List Bool) (c : Rest)
   pub clean : shaftsFault s x ≡ 0
 
 -- one shaft more: the store after it is what s has there
-module _ (f v : ℕ) (s t : Store) (x : ℕ) (below : x < mostShafts) (l : List Bool) (c : Rest) (settles : Settles s (suc x) c)
+module _ (f v : ℕ) (s t : Store) (x : ℕ) (below : x < mostShafts) (l : List Bool) (c : Rest) (settles : Settles (cassetteWidth f) s (suc x) c)
     (p : Shafts f v s t x l (λ b u q. readShaft f v x b u q c)) (r : Column f v s x (cassettesBelow s x) (cut s x (16 * x)) (p .left) c) where
   settled : Settled s (suc x) (r .then)
   settled = settles _ (r .then) (r .left) (r .low) (r .after)
@@ -246,7 +250,7 @@ module _ (f v : ℕ) (s t : Store) (x : ℕ) (below : x < mostShafts) (l : List 
     left = r .left;
     after = cc (same-column, settled .same, r .after);
     begins = cc (p .begins, r .begins, same-depth, same-height, same-column, append-assoc (shaftsBits f s x) (shaftBits f s x) (r .left));
-    low = subst (Low (suc x)) (settled .same) (r .low);
+    low = subst (Low (cassetteWidth f) (suc x)) (settled .same) (r .low);
     start = p .start;
     deep = one-more (λ y. 0 < depth s y) (p .deep) (omega (arith, r .deep, same-depth));
     common = λ z. one-more (λ y. depth s y ≡ v + 1) (p .common z) (sym same-depth ∙ r .common z);
@@ -255,7 +259,7 @@ module _ (f v : ℕ) (s t : Store) (x : ℕ) (below : x < mostShafts) (l : List 
     clean = shaft-passed s x (p .clean) (by-rows s x low-enough ∙ clean-rows);
   }
 
-pub shafts-read : (f v : ℕ) → v < mostRows → (s t : Store) (x : ℕ) (l : List Bool) (c : Rest) → x ≤ mostShafts → Low 0 t → Settles s x c
+pub shafts-read : (f v : ℕ) → v < mostRows → (s t : Store) (x : ℕ) (l : List Bool) (c : Rest) → x ≤ mostShafts → Low (cassetteWidth f) 0 t → Settles (cassetteWidth f) s x c
     → readShafts f v x [] t l c ≡ accepted s → Shafts f v s t x l c
 unfolding readShafts columnsBits cassettesBelow shaftsFault
 shafts-read f v few s t zero l c h low settles e =
@@ -264,7 +268,7 @@ shafts-read f v few s t zero l c h low settles e =
       left = l;
       after = cc (q, e);
       begins = refl;
-      low = subst (Low 0) q low;
+      low = subst (Low (cassetteWidth f) 0) q low;
       start = q;
       deep = λ y g. absurd (not-suc-le-zero g);
       common = λ z y g. absurd (not-suc-le-zero g);

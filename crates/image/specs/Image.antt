@@ -1,20 +1,22 @@
--- The image of a store (document 01, "The image"; document 02, 7/13): "Fields are packed most significant bit first, with no gaps". Form 0 has one depth for
--- all shafts, form 1 a depth for each; a store is written in form 0 exactly if its depths are equal.
-use mathlib.Core.Bool.{Bool, cond, not}
+-- The image of a store (document 01, "The image"; document 02, 7/13 and 8/13): "Fields are packed most significant bit first, with no gaps". Form 0 has one depth
+-- for all shafts, form 1 a depth for each, and form 2 besides cassettes of 12 bits.
+use mathlib.Core.Bool.{Bool, cond, not, _&&_, _||_}
 use mathlib.Core.List.{List, [], _++_}
 use mathlib.Core.Path.{_≡_}
 use Prim.Native.Nat.{ℕ, zero, suc, _-_, _<_}
 use lib.Dec.{ltb, eqb}
-use lib.ListN.{length}
-use Rattle.bits.specs.Fields.{bits, field, packed, bitsOf, bytesOf, byteCount}
-use Rattle.lifts.specs.Lifting.{heightIn}
+use lib.ListN.{length, getD}
+use Rattle.bits.specs.Fields.{bits, field, bitsOf, bytesOf, byteCount}
+use Rattle.marks.specs.Cassettes.{given}
+use Rattle.lifts.specs.Lifting.{slotCount, heightIn}
 use Rattle.depths.specs.Depths.{depthBy}
 use Rattle.in_place.specs.InPlace.{allBelow}
 use Rattle.store.specs.declared.Store.{Store}
 use Rattle.store.specs.Slots.{depth}
 use Rattle.rows.specs.Rows.{rowsUp}
+use Rattle.image.specs.Coding.{codable, cassetteBits}
 
--- how many bits each field has: the form, m − 1 and a depth − 1, a height, a cassette
+-- how many bits each field has: the form, m − 1 and a depth − 1, a height; of a cassette see `cassetteWidth`
 abbrev pub formWidth : ℕ
 formWidth = 4
 
@@ -24,16 +26,27 @@ frameWidth = 4
 abbrev pub heightWidth : ℕ
 heightWidth = 5
 
-abbrev pub cassetteWidth : ℕ
-cassetteWidth = 8
-
 -- the last form that there is
 abbrev pub lastForm : ℕ
-lastForm = 1
+lastForm = 2
+
+-- "Number 1 covers forms above 2, read or named for writing"
+abbrev pub formFault : ℕ → ℕ
+formFault f = given (ltb lastForm f) 1
 
 -- in form f each shaft has its own depth, before its height; in form 0 the head has one for all
 abbrev pub ownDepths : ℕ → Bool
 ownDepths f = ltb 0 f
+
+-- "Form 2 is form 1 with 12-bit numbers": in the others a cassette has 8 bits
+abbrev pub byteWidth : ℕ
+byteWidth = 8
+
+abbrev pub wideWidth : ℕ
+wideWidth = 12
+
+unfoldable pub cassetteWidth : ℕ → ℕ
+cassetteWidth f = cond (ltb 1 f) wideWidth byteWidth
 
 -- how many depths an image of m shafts names
 abbrev pub depthFields : ℕ → ℕ → ℕ
@@ -43,15 +56,16 @@ depthFields f m = cond (ownDepths f) m 1
 abbrev pub fieldIf : Bool → ℕ → ℕ → List Bool
 fieldIf there w v = cond there (bits w v) []
 
--- "form (4 bits ..), m − 1 (4), h − 1 (4)"; form 1 has "form, m − 1"
+-- "form (4 bits ..), m − 1 (4), h − 1 (4)"; forms 1 and 2 have "form, m − 1"
 unfoldable pub headBits : ℕ → Store → List Bool
 headBits f s = bits formWidth f ++ bits frameWidth (s .m - 1) ++ fieldIf (not (ownDepths f)) frameWidth (depth s 0 - 1)
 
--- in form 1 "its depth − 1 (4 bits), height (5) and cassettes", in form 0 "its height (5) and its cassettes from row 1 upward (8 each)": shaft x of the depths, the
+-- in forms 1 and 2 "its depth − 1 (4 bits), height (5) and cassettes", in form 0 "its height (5) and its cassettes from row 1 upward": shaft x of the depths, the
 -- heights and the slots
 unfoldable pub columnBits : ℕ → List ℕ → List ℕ → List ℕ → ℕ → List Bool
+unfolding cassetteWidth
 columnBits f depths heights slots x =
-    fieldIf (ownDepths f) frameWidth (depthBy depths x - 1) ++ bits heightWidth (heightIn heights x) ++ packed cassetteWidth (rowsUp slots x (heightIn heights x))
+    fieldIf (ownDepths f) frameWidth (depthBy depths x - 1) ++ bits heightWidth (heightIn heights x) ++ cassetteBits (cassetteWidth f) (rowsUp slots x (heightIn heights x))
 
 -- "for each shaft from 0": the shafts below x
 unfoldable pub columnsBits : ℕ → List ℕ → List ℕ → List ℕ → ℕ → List Bool
@@ -87,19 +101,15 @@ unfoldable pub equalDepths : Store → Bool
 unfolding allBelow
 equalDepths s = allBelow (s .m) (λ x. eqb (depth s x) (depth s 0))
 
--- "form 0 still reads as equal depths and is written for exactly those"
-unfoldable pub formOf : Store → ℕ
-unfolding equalDepths
-formOf s = cond (equalDepths s) 0 1
+-- every slot shows a number that has a value of w bits
+unfoldable pub allCodable : ℕ → Store → Bool
+unfolding allBelow codable
+allCodable w s = allBelow slotCount (λ i. codable w (getD (s .slots) i 0))
 
--- the image of a store, as it is written, and how many bytes that has
-unfoldable pub imageLength : Store → ℕ
-unfolding lengthIn formOf
-imageLength s = lengthIn (formOf s) s
-
-unfoldable pub imageOf : Store → List ℕ
-unfolding imageIn formOf
-imageOf s = imageIn (formOf s) s
+-- form f can hold the store: it has no "unequal depths in form 0", and no "cassette from 255 to 4,094 in form 0 or 1"
+unfoldable pub holds : ℕ → Store → Bool
+unfolding equalDepths allCodable cassetteWidth
+holds f s = (ownDepths f || equalDepths s) && allCodable (cassetteWidth f) s
 
 -- the form that bytes name: their first field
 unfoldable pub formIn : List ℕ → ℕ

@@ -1,3 +1,4 @@
+pub mod Coding
 pub mod Image
 pub mod Numbers
 pub mod Promises

@@ -1,4 +1,4 @@
--- Reading an image (document 01, "Which comes first"; document 02, 7/13): "Reading goes field by field, and the first fault met is given: 2 for a missing field, then
+-- Reading an image (document 01, "Which comes first"; document 02, 7/13 and 8/13): "Reading goes field by field, and the first fault met is given: 2 for a missing field, then
 -- the field's own fault (4 before 5)." After the last shaft comes 7 (request 3/13). Each part is handed what is read after it, so the faults come in this
 -- order.
 use mathlib.Core.Bool.{Bool, cond, not, _&&_}
@@ -13,7 +13,8 @@ use Rattle.marks.specs.Cassettes.{given, cassetteFault}
 use Rattle.lifts.specs.Lifting.{mostShafts, slotCount}
 use Rattle.store.specs.declared.Store.{Store}
 use Rattle.store.specs.Slots.{held}
-use Rattle.image.specs.Image.{formWidth, frameWidth, heightWidth, cassetteWidth, lastForm, ownDepths}
+use Rattle.image.specs.Coding.{meant}
+use Rattle.image.specs.Image.{formWidth, frameWidth, heightWidth, cassetteWidth, formFault, ownDepths}
 
 -- the store, and the number of the refusal, 0 where the image is accepted
 pub record Reading : Type 0 where
@@ -77,31 +78,32 @@ placed s x k v = held (s .m) (s .depths) (s .heights) (set (s .slots) (16 * x + 
 abbrev pub takeCassette : ℕ → ℕ → ℕ → Part
 takeCassette x k v before s l c = unless (cassetteFault before v) (c (before ++ (v ∷ [])) (placed s x k v) l)
 
--- a cassette as a field of w bits
+-- a cassette as a field of w bits, by the number that its value stands for (request 8/13)
 abbrev pub readRow : ℕ → ℕ → ℕ → Part
-readRow w x k before s l c = next w l (λ v r. takeCassette x k v before s r c)
+readRow w x k before s l c = next w l (λ v r. takeCassette x k (meant w v) before s r c)
 
--- "its cassettes from row 1 upward (8 each)": the first k, each a field of w bits
+-- "its cassettes from row 1 upward": the first k, each a field of w bits
 unfoldable pub readRows : ℕ → ℕ → ℕ → Part
+unfolding meant
 readRows w x zero before s l c = c before s l
 readRows w x (suc k) before s l c = readRows w x k before s l (λ b t r. readRow w x k b t r c)
 
 -- 3, a height v above the depth d of its shaft (request 7/13), and then the shaft's cassettes
-unfoldable pub readColumn : ℕ → ℕ → ℕ → Part
+unfoldable pub readColumn : ℕ → ℕ → ℕ → ℕ → Part
 unfolding readRows
-readColumn x d v before s l c = unless (given (ltb d v) 3) (readRows cassetteWidth x v before (raised s x v) l c)
+readColumn w x d v before s l c = unless (given (ltb d v) 3) (readRows w x v before (raised s x v) l c)
 
 -- "its height (5) and its cassettes": shaft x, of depth d
-abbrev pub readHeight : ℕ → ℕ → Part
-readHeight x d before s l c = next heightWidth l (λ v r. readColumn x d v before s r c)
+abbrev pub readHeight : ℕ → ℕ → ℕ → Part
+readHeight w x d before s l c = next heightWidth l (λ v r. readColumn w x d v before s r c)
 
 -- shaft x in form f: its own depth − 1 comes first, or is the one of the head, v
 abbrev pub readShaft : ℕ → ℕ → ℕ → Part
-readShaft f v x before s l c = nextIf (ownDepths f) frameWidth v l (λ u r. readHeight x (u + 1) before (deepened s x (u + 1)) r c)
+readShaft f v x before s l c = nextIf (ownDepths f) frameWidth v l (λ u r. readHeight (cassetteWidth f) x (u + 1) before (deepened s x (u + 1)) r c)
 
 -- "for each shaft from 0": the shafts below x
 unfoldable pub readShafts : ℕ → ℕ → ℕ → Part
-unfolding readColumn
+unfolding readColumn cassetteWidth
 readShafts f v zero before s l c = c before s l
 readShafts f v (suc x) before s l c = readShafts f v x before s l (λ b t r. readShaft f v x b t r c)
 
@@ -130,9 +132,9 @@ readDepth f m l = nextIf (not (ownDepths f)) frameWidth 0 l (λ v r. readBody f 
 abbrev pub readSize : ℕ → List Bool → Reading
 readSize f l = next frameWidth l (readDepth f)
 
--- "Number 1 now covers forms above 1" (request 7/13)
+-- the form, and what is after it
 abbrev pub readForm : ℕ → List Bool → Reading
-readForm f l = unless (given (ltb lastForm f) 1) (readSize f l)
+readForm f l = unless (formFault f) (readSize f l)
 
 -- what a list of bytes is read as, for every list
 unfoldable pub readImage : List ℕ → Reading

@@ -1,4 +1,4 @@
-// Images of stores (document 01, "The image"; document 02, 7/13): the answers of reading and of writing one. The definitions that the contracts of `reading`
+// Images of stores (document 01, "The image"; document 02, 7/13 and 8/13): the answers of reading and of writing one. The definitions that the contracts of `reading`
 // and `writing` cite are in specs/; proofs/RoundTrip.antt shows how the two undo each other.
 
 use store::Fault;
@@ -21,10 +21,12 @@ pub struct Read {
     pub answer: ReadAnswer,
 }
 
-// Whether an image is written, or why not: the store's number, or 10.
+// Whether an image is written in the form named, or why not: the store's number, 1, 18, 10.
 pub enum WriteAnswer {
     Whole,
     StoreRefused(Fault),
+    WrongForm,
+    CannotHold,
     NoRoom,
 }
 

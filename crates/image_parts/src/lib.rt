@@ -1,6 +1,8 @@
-// The parts of an image written with a pen (document 01, "The image"; document 02, 7/13): its head, and its shafts in order.
+// The parts of an image written with a pen (document 01, "The image"; document 02, 7/13 and 8/13): its head, and its shafts in order.
 use depths::Depths;
 use depths::depth_of;
+use forms::cassette_width;
+use forms::coded;
 use forms::own_depths;
 use lifts::Heights;
 use lifts::Slots;
@@ -12,13 +14,13 @@ use pens::start;
 use store::Store;
 ghost use Prim.Native.Nat.{_+_, _-_, _*_, _≤_, _<_};
 ghost use lib.ListN.{length};
-ghost use Rattle.bits.specs.Fields.{packed};
 ghost use Rattle.pens.specs.Pens.{noBits, Pushes};
 ghost use Rattle.lifts.specs.Lifting.{mostShafts, mostRows};
 ghost use Rattle.depths.specs.Depths.{depthBy};
 ghost use Rattle.store.specs.Slots.{depth};
 ghost use Rattle.rows.specs.Rows.{rowsUp};
-ghost use Rattle.image.specs.Image.{frameWidth, cassetteWidth, fieldIf, headBits, columnBits, columnsBits};
+ghost use Rattle.image.specs.Coding.{cassetteBits};
+ghost use Rattle.image.specs.Image.{frameWidth, wideWidth, fieldIf, headBits, columnBits, columnsBits};
 ghost use Rattle.image_parts.specs.Promises.{CanWrite, CanWriteBelow};
 
 // The depth − 1 of shaft x, where it is there.
@@ -45,16 +47,16 @@ pub fn write_head(form: u8, s: Store, out: &mut [u8]) -> Pen
     push_depth(!own_depths(form), size, out, depths, 0)
 }
 
-// The first cassettes of shaft x, from row 1 upward.
-fn write_rows(slots: &Slots, out: &mut [u8], p: Pen, x: usize, rows: usize) -> Pen
+// The first cassettes of shaft x, from row 1 upward, each as a field of w bits.
+fn write_rows(slots: &Slots, out: &mut [u8], p: Pen, w: usize, x: usize, rows: usize) -> Pen
     requires { ⌜ (x < mostShafts) × (rows ≤ mostRows) × (p .full < 8) ⌝ }
-    requires { ⌜ 8 * p .at + p .full + cassetteWidth * rows ≤ 8 * length (now out) ⌝ }
-    ensures { λ r. ⌜ Pushes (packed cassetteWidth (rowsUp (now (slots .entry)) x rows)) (now (out .entry)) (now (out .exit)) p r ⌝ }
+    requires { ⌜ (w ≤ wideWidth) × (8 * p .at + p .full + rows * w ≤ 8 * length (now out)) ⌝ }
+    ensures { λ r. ⌜ Pushes (cassetteBits w (rowsUp (now (slots .entry)) x rows)) (now (out .entry)) (now (out .exit)) p r ⌝ }
 {
     let mut q = p;
     let mut k: usize = 0;
     while k < rows {
-        q = push(q, out, slot_at(slots, 16 * x + k) as u16, 8);
+        q = push(q, out, coded(w, slot_at(slots, 16 * x + k)), w);
         k += 1;
     }
     q
@@ -77,7 +79,7 @@ fn write_shaft(
     let deep = push_depth(own_depths(form), p, out, depths, x);
     let rows = height_at(heights, x);
     let q = push(deep, out, rows as u16, 5);
-    write_rows(slots, out, q, x, rows as usize)
+    write_rows(slots, out, q, cassette_width(form), x, rows as usize)
 }
 
 // The first shafts.

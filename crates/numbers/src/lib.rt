@@ -1,4 +1,4 @@
-// The number of document 01 for each answer on one store ("Refused because of the input", "Refused because of the state"), 0 where nothing is refused. The definitions
+// The number of document 01, or of document 02, for each answer on one store, 0 where nothing is refused. The definitions
 // are in specs/Numbers.antt of the crate of each answer.
 use image::ReadAnswer;
 use image::WriteAnswer;
@@ -29,7 +29,7 @@ pub fn fault_number(f: Fault) -> u8
     match f {
         Fault::OutOfPlace => 12,
         Fault::TooHigh => 3,
-        Fault::NumberZero => 4,
+        Fault::NoCassette => 4,
         Fault::Twice => 5,
     }
 }
@@ -83,6 +83,8 @@ pub fn write_number(a: WriteAnswer) -> u8
     match a {
         WriteAnswer::Whole => 0,
         WriteAnswer::StoreRefused(f) => fault_number(f),
+        WriteAnswer::WrongForm => 1,
+        WriteAnswer::CannotHold => 18,
         WriteAnswer::NoRoom => 10,
     }
 }

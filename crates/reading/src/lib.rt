@@ -62,7 +62,7 @@ fn smallest() -> Store
         m: 1,
         depths,
         heights: [0u8; 16],
-        slots: [0u8; 256],
+        slots: [0u16; 256],
     }
 }
 
@@ -72,7 +72,7 @@ pub fn read(image: &[u8]) -> Read
 {
     let mut depths = [0u8; 16];
     let mut heights = [0u8; 16];
-    let mut slots = [0u8; 256];
+    let mut slots = [0u16; 256];
     let head = read_head(image);
     let end = read_body(image, head, &mut depths, &mut heights, &mut slots);
     let answer = answer_of(end.fault);

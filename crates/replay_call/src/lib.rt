@@ -2,14 +2,14 @@
 use calls::answer;
 use calls::read_one;
 use calls::refused;
-use forms::image_length;
+use fields::form_in;
 use numbers::end_number;
 use replay::play;
 use store::Store;
 use writing::write;
 ghost use Rattle.replay_call.specs.ReplayCall.{ReplayCallIs};
 
-// Plays a list on a store and writes the store reached, or nothing.
+// Plays a list on a store and writes the store reached, in the form of the image given, or nothing.
 pub fn call_replay(image: &[u8], list: &[u8], out: &mut [u8]) -> u64
     ensures { λ r. ⌜ ReplayCallIs (now (image .entry)) (now (list .entry)) (now (out .entry)) r (now (out .exit)) ⌝ }
 {
@@ -19,8 +19,7 @@ pub fn call_replay(image: &[u8], list: &[u8], out: &mut [u8]) -> u64
         return refused(number, out);
     }
     let s = one.store;
-    let need = image_length(s);
-    if out.len() < need {
+    if out.len() < image.len() {
         return refused(10, out);
     }
     let depths = s.depths;
@@ -34,7 +33,7 @@ pub fn call_replay(image: &[u8], list: &[u8], out: &mut [u8]) -> u64
         heights,
         slots,
     };
-    write(reached, out);
+    write(form_in(image), reached, out);
     let end = played.end;
     answer(played.count, end_number(end))
 }

@@ -18,11 +18,11 @@ use Rattle.store.proofs.Acceptance.{accepted-sound}
 use Rattle.image.specs.declared.WriteAnswer.{WriteAnswer}
 use Rattle.image.specs.declared.WriteAnswer.the-variants.{Whole}
 use Rattle.image.specs.declared.Written.{Written}
-use Rattle.image.specs.Image.{headBits, shaftsBits, imageBits, lengthIn, formOf, imageLength, imageOf}
+use Rattle.image.specs.Image.{headBits, shaftsBits, imageBits, lengthIn, imageIn}
 use Rattle.image.specs.Numbers.{writeNumber}
 use Rattle.image.specs.Writing.{writeRefusal, bytesAfter, countAfter, RefusedWrite, WriteIs}
 use Rattle.image.proofs.Answered.{only-write}
-use Rattle.image.proofs.Refused.{not-refused}
+use Rattle.image.proofs.Refused.{Writable, not-refused}
 use Rattle.image_parts.specs.Promises.{CanWriteBelow}
 
 -- what an accepted store says of its parts
@@ -37,35 +37,33 @@ module _ (s : Store) (e : Accepted s) where
   has-frame = let p = accepted-sound s e in (p .some-shaft, p .some-row 0 (p .some-shaft), p .shaped .rows 0)
 
 -- a refusal writes nothing
-none-written : (k : ℕ) (s : Store) (out : List ℕ) → (k ≡ 0 → ⊥) → (0 ≡ countAfter k s) × (out ≡ bytesAfter k s out)
-none-written zero s out n = absurd (n refl)
-none-written (suc k) s out n = (refl, refl)
+none-written : (k f : ℕ) (s : Store) (out : List ℕ) → (k ≡ 0 → ⊥) → (0 ≡ countAfter k f s) × (out ≡ bytesAfter k f s out)
+none-written zero f s out n = absurd (n refl)
+none-written (suc k) f s out n = (refl, refl)
 
 -- a refusal with the number that is due
-pub refused-write : (s : Store) {out next : List ℕ} {r : Written} (a : WriteAnswer) → RefusedWrite a out next r → writeRefusal s (length out) ≡ writeNumber a
-    → (writeNumber a ≡ 0 → ⊥) → WriteIs s out next r
-refused-write s {out} a p e n =
-    let w = none-written (writeRefusal s (length out)) s out (λ z. n (sym e ∙ z)) in
+pub refused-write : (f : ℕ) (s : Store) {out next : List ℕ} {r : Written} (a : WriteAnswer) → RefusedWrite a out next r → writeRefusal f s (length out) ≡ writeNumber a
+    → (writeNumber a ≡ 0 → ⊥) → WriteIs f s out next r
+refused-write f s {out} a p e n =
+    let w = none-written (writeRefusal f s (length out)) f s out (λ z. n (sym e ∙ z)) in
     rw (p .is) (record { answer = only-write (sym e); count = w .0; bytes = p .bytes ∙ w .1 })
 
--- a store that is not refused, in a space that holds its image
-module _ (s : Store) (out : List ℕ) (e : Accepted s) (k : ℕ) (form : k ≡ formOf s) (room : lengthIn k s ≤ length out) where
-  -- the fields in the store's form, and zero bits to the end of the byte
-  pub image-written : (a b next : List ℕ) (p q r : Pen) → Pushes (headBits k s) out a noBits p → Pushes (shaftsBits k s (s .m)) a b p q → Pads b next q r
-      → WriteIs s out next (record { count = r .at; answer = Whole })
-  unfolding imageBits lengthIn imageLength imageOf
-  image-written a b next p q r f g h =
-      let none = not-refused s out e (rw (← form) room) in
-      let all = pushes-then (pushes-then f g) (h .pushes) in
-      let held = all .holds out [] (holds-none out) in
-      let l = imageBits k s ++ bits (h .zeros) 0 in
-      let z = length-bits (h .zeros) 0 in
-      let n = length-append (imageBits k s) (bits (h .zeros) 0) in
-      let count : r .at ≡ lengthIn k s = omega (arith, all .count, h .whole, h .few) in
-      let first = stored-bytes out next r l held (h .whole) (omega (arith, held .same-length)) in
-      let same = bytes-agree (lengthIn k s) l (imageBits k s) (padded-agrees (imageBits k s) (h .zeros)) in
-      record {
-        answer = only-write (sym none);
-        count = rw (none, ← form) count;
-        bytes = rw (none, ← form) (cc (take-append-drop (r .at) next, first, count, same, held .kept));
-      }
+-- a store that is not refused: the fields in the form named, and zero bits to the end of the byte
+pub image-written : (f : ℕ) (s : Store) (out : List ℕ) → Writable f s out → (a b next : List ℕ) (p q r : Pen) → Pushes (headBits f s) out a noBits p → Pushes (shaftsBits f s (s .m)) a b p q
+    → Pads b next q r → WriteIs f s out next (record { count = r .at; answer = Whole })
+unfolding imageBits lengthIn imageIn
+image-written f s out can a b next p q r g h k =
+    let none = not-refused f s out (can .sound) (can .known) (can .held) (can .room) in
+    let all = pushes-then (pushes-then g h) (k .pushes) in
+    let held = all .holds out [] (holds-none out) in
+    let l = imageBits f s ++ bits (k .zeros) 0 in
+    let z = length-bits (k .zeros) 0 in
+    let n = length-append (imageBits f s) (bits (k .zeros) 0) in
+    let count : r .at ≡ lengthIn f s = omega (arith, all .count, k .whole, k .few) in
+    let first = stored-bytes out next r l held (k .whole) (omega (arith, held .same-length)) in
+    let same = bytes-agree (lengthIn f s) l (imageBits f s) (padded-agrees (imageBits f s) (k .zeros)) in
+    record {
+      answer = only-write (sym none);
+      count = rw none count;
+      bytes = rw none (cc (take-append-drop (r .at) next, first, count, same, held .kept));
+    }

@@ -1,5 +1,5 @@
-// Writing an image (document 01, "Which comes first"; document 02, 7/13): the store's faults, then 10, and then the fields one after the other.
-use forms::form_of;
+// Writing an image in the form that the caller names (document 02, 8/13): the store's faults, then 1, 18, 10, and then the fields one after the other.
+use forms::can_hold;
 use forms::length_in;
 use image::WriteAnswer;
 use image::Written;
@@ -17,16 +17,21 @@ fn refused(answer: WriteAnswer, out: &mut [u8]) -> Written
     Written { count: 0, answer }
 }
 
-// The image of a store, in the first of the lent bytes.
-pub fn write(s: Store, out: &mut [u8]) -> Written
-    ensures { λ r. ⌜ WriteIs s (now (out .entry)) (now (out .exit)) r ⌝ }
+// The image of a store in a form, in the first of the lent bytes.
+pub fn write(form: u8, s: Store, out: &mut [u8]) -> Written
+    ensures { λ r. ⌜ WriteIs form s (now (out .entry)) (now (out .exit)) r ⌝ }
 {
     let checked = s.check();
     let verdict = checked.verdict;
     if let Verdict::Refused(f) = verdict {
         return refused(WriteAnswer::StoreRefused(f), out);
     }
-    let form = form_of(s);
+    if form > 2 {
+        return refused(WriteAnswer::WrongForm, out);
+    }
+    if !can_hold(form, s) {
+        return refused(WriteAnswer::CannotHold, out);
+    }
     if out.len() < length_in(form, s) {
         return refused(WriteAnswer::NoRoom, out);
     }

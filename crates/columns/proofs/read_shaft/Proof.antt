@@ -4,6 +4,7 @@ use mathlib.Core.Bool.{Bool}
 use mathlib.Core.Path.{subst}
 use native.Mathlib.Omega.{arith}
 use Rattle.image.specs.Image.{frameWidth, ownDepths}
+use Rattle.image.proofs.Forms.{width-some, width-most}
 use Rattle.fields.specs.Cursors.{FieldIfIs}
 use Rattle.columns.proofs.Parts.{shaft-goes}
 use Rattle.columns.proofs.read_shaft.Statement.{statement}
@@ -20,16 +21,25 @@ field-if-requires c κs = let p = c .before .before .pre in ((omega arith, omega
 
 read-column-requires : tie.Need-read-column-requires
 read-column-requires c κs =
-    let f = c .before .before .before in
+    let f = c .before .before .before .before in
     let d = f .before .before in
-    let p = d .before .before .before .pre in
-    ((p .0, omega (arith, d .field-if .ensures .small)), (omega (arith, p .2, d .field-if .ensures .within, f .next-field .ensures .within), omega (arith, f .next-field .ensures .small)))
+    let s = d .before .before .before in (
+      (s .pre .0, omega (arith, d .field-if .ensures .small)),
+      (
+        (omega (arith, s .pre .2, d .field-if .ensures .within, f .next-field .ensures .within), omega (arith, f .next-field .ensures .small)),
+        (omega (arith, c .cassette-width .ensures, width-some (s .args .head .form)), omega (arith, c .cassette-width .ensures, width-most (s .args .head .form))),
+      ),
+    )
 
 returns : tie.Need-returns
-returns c = let f = c .before .before .before .before in shaft-goes (depth-read (f .before .before)) (f .next-field .ensures) (c .read-column .ensures)
+returns c =
+    let w = c .before in
+    let f = w .before .before .before .before in
+    let d = f .before .before in
+    shaft-goes (depth-read d) (f .next-field .ensures) (rw (w .cassette-width .ensures) at (c .read-column .ensures))
 
 pub read-shaft-spec : {M : Type 1} → statement M
 read-shaft-spec =
     tie.close
     (tie.spec (λ c κs. search needs) field-if-requires (λ c. search needs) (λ c. omega (arith, c .before .field-if .ensures .small)) (λ c. search needs)
-    (λ c κs. let d = c .before in (omega arith, omega arith, omega (arith, d .before .before .before .pre .2, d .field-if .ensures .within))) read-column-requires returns)
+    (λ c κs. let d = c .before in (omega arith, omega arith, omega (arith, d .before .before .before .pre .2, d .field-if .ensures .within))) (λ c κs. search needs) read-column-requires returns)

@@ -1,4 +1,4 @@
--- `check_form` meets its contract: a fault is kept; else 1 for a form above 1.
+-- `check_form` meets its contract: a fault is kept; else 1 for a form above 2.
 use Rattle.fields.proofs.Cursors.{form-kept, form-refused, form-taken}
 use borrow.Author.Needs.{needs}
 use Rattle.fields.proofs.check_form.Statement.{statement}

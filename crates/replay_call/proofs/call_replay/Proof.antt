@@ -23,31 +23,28 @@ returns c =
     let w = r .before .before in
     replay-refused (r .refused .ensures) (w .before .read-one .ensures .number) (w .if1 .taken)
 
--- where 10 was looked for: the image's fault was not, and the length is that of the image that would be written
-abbrev read : tie.After-image-length → tie.Else1
-read c = c .before .before
-
 returns-2 : tie.Need-returns-2
 returns-2 c =
-    let r = c .before .before in
-    let w = r .before .before in
-    replay-little-space (bytes (read (w .before))) (start (read (w .before))) (r .refused2 .ensures) (omega (arith, w .before .image-length .ensures, w .if2 .taken))
+    let t = c .before .before .before .before in
+    replay-little-space (start (t .before .before)) (c .before .before .refused2 .ensures) (omega (arith, t .if2 .taken))
 
 play-requires : tie.Need-play-requires
 play-requires c κs =
-    let e = read (c .before .before .before .before .before .before .before) in
+    let e = c .before .before .before .before .before .before .before .before in
     (e .before .read-one .ensures .accepted (e .if1 .left), λ i. refl)
 
 returns-3 : tie.Need-returns-3
 returns-3 c =
     let w = c .before .before .before .before in
-    let r = w .before .before .before in
+    let f = w .before .before in
+    let r = f .before .before in
     let e = r .before .before .before .before .before .before .before in
-    replay-answered (bytes (read (e .before))) (start (read (e .before))) (omega (arith, e .before .image-length .ensures, e .if2 .left)) (r .play .ensures) (w .write .ensures) (c .before .end-number .ensures) (c .answer .ensures)
+    let o = e .before .before in
+    replay-answered (start o) (bytes o) (omega (arith, e .if2 .left)) (r .play .ensures) (f .form-in .ensures) (w .write .ensures) (c .before .end-number .ensures) (c .answer .ensures)
 
 pub call-replay-spec : {M : Type 1} → statement M
 call-replay-spec =
     tie.close
-    (tie.spec (λ c κs. search needs) (λ c κs. search needs) (λ c. search needs) returns (λ c κs. search needs) (λ c κs. search needs)
-    (λ c. search needs) returns-2 (λ c. search needs) play-requires (λ c κs. search needs) (λ c κs. search needs) (λ c κs. search needs)
+    (tie.spec (λ c κs. search needs) (λ c κs. search needs) (λ c. search needs) returns (λ c κs. search needs)
+    (λ c. search needs) returns-2 (λ c. search needs) play-requires (λ c κs. search needs) (λ c κs. search needs) (λ c κs. search needs) (λ c κs. search needs)
     (λ c. search needs) returns-3)
