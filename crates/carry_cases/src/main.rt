@@ -4,6 +4,7 @@
 use libc::STDOUT_FILENO;
 use lift_bytes::entered_of;
 use lift_bytes::left_of;
+use marks::Cassette;
 use numbers::end_number;
 use numbers::read_number;
 use reading::read;
@@ -32,7 +33,7 @@ fn fill(path: &[u8], buffer: &mut [u8]) -> usize
 }
 
 // A cassette, how often it was carried by the count beside its slot, and by its number; nothing of an empty slot.
-fn say_slot(c: u8, times: usize, looked_up: usize) {
+fn say_slot(c: Cassette, times: usize, looked_up: usize) {
     if c != 0 {
         say(b"", c as u64);
         say(b" ", times as u64);
@@ -42,7 +43,7 @@ fn say_slot(c: u8, times: usize, looked_up: usize) {
 }
 
 // The cassettes of a store, shaft by shaft from row 1 upward.
-fn say_slots(replayed: Replayed, slots: &[u8], carries: &[usize]) {
+fn say_slots(replayed: Replayed, slots: &[Cassette], carries: &[usize]) {
     let mut i: usize = 0;
     while i < slots.len() {
         if i < carries.len() {
@@ -91,7 +92,7 @@ fn say_replay(s: Store, list: &[u8]) {
 }
 
 fn main() {
-    let mut image = [0u8; 300];
+    let mut image = [0u8; 500];
     let n = fill(b"store.img", &mut image);
     let got = read(&image[..n]);
     let answer = got.answer;

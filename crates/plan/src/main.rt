@@ -36,9 +36,9 @@ fn fill(file: i32, buffer: &mut [u8]) -> usize
     done
 }
 
-// Reads a file as an image: its first 300 bytes, none where it can't be read.
+// Reads a file as an image: its first 500 bytes (request 8/13), none where it can't be read.
 fn read_file(path: &[u8]) -> Read {
-    let mut buffer = [0u8; 300];
+    let mut buffer = [0u8; 500];
     let file = os::open_read(path);
     if file < 0 {
         return read(b"");

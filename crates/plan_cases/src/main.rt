@@ -3,6 +3,8 @@
 use check::same;
 use depths::equal;
 use libc::STDOUT_FILENO;
+use lifts::Slots;
+use marks::Cassette;
 use marks::blank;
 use numbers::end_number;
 use pair_numbers::plan_number;
@@ -15,6 +17,17 @@ use store::Store;
 fn say(what: &[u8], number: u64) {
     io::write_all(STDOUT_FILENO, what);
     io::print_decimal(STDOUT_FILENO, number);
+}
+
+fn same_slots(a: &Slots, b: &Slots) -> bool {
+    let mut i: usize = 0;
+    while i < 256 {
+        if a[i] != b[i] {
+            return false;
+        }
+        i += 1;
+    }
+    true
 }
 
 // Whether two stores are the same.
@@ -34,7 +47,7 @@ fn same_store(s: Store, t: Store) -> bool {
     }
     let c = s.slots;
     let d = t.slots;
-    same(&c, &d)
+    same_slots(&c, &d)
 }
 
 // m shafts of depth h with no cassette.
@@ -44,12 +57,12 @@ fn empty(m: u8, h: u8) -> Store {
         m,
         depths,
         heights: [0u8; 16],
-        slots: [0u8; 256],
+        slots: [0u16; 256],
     }
 }
 
 // One cassette more on top of a shaft, where there is room in the arrays.
-fn with(s: Store, x: usize, c: u8) -> Store {
+fn with(s: Store, x: usize, c: Cassette) -> Store {
     if 16 <= x {
         return s;
     }
@@ -64,7 +77,7 @@ fn with(s: Store, x: usize, c: u8) -> Store {
 }
 
 // Six orders of the cassettes 1 to 8.
-const ORDERS: [u8; 48] = [
+const ORDERS: [Cassette; 48] = [
     1,
     2,
     3,
@@ -171,14 +184,14 @@ fn nearly_full(from: usize) -> Store {
     let mut s = empty(16, 16);
     let mut i: usize = 0;
     while i < 255 {
-        s = with(s, i / 16, ((i + from % 255) % 255 + 1) as u8);
+        s = with(s, i / 16, ((i + from % 255) % 255 + 1) as u16);
         i += 1;
     }
     s
 }
 
 // Cassette 1, or a blank.
-fn one_or_blank(one: bool) -> u8 {
+fn one_or_blank(one: bool) -> Cassette {
     if one { 1 } else { blank() }
 }
 
@@ -235,17 +248,53 @@ fn refused_cases(list: &mut [u8]) {
     show(b"a store of m 0", empty(0, 3), empty(3, 3), list);
 }
 
+// Two cassettes, in the first two of m shafts of depth h.
+fn apart(m: u8, h: u8, c: Cassette, d: Cassette) -> Store {
+    with(with(empty(m, h), 0, c), 1, d)
+}
+
+// Numbers past 255, and such as share their low bits (request 8/13).
+fn number_cases(list: &mut [u8]) {
+    show(
+        b"64 for 4032",
+        with(empty(3, 3), 0, 4032),
+        with(empty(3, 3), 0, 64),
+        list,
+    );
+    show(
+        b"255 for a blank",
+        with(empty(3, 3), 0, blank()),
+        with(empty(3, 3), 0, 255),
+        list,
+    );
+}
+
+fn exchanged_cases(list: &mut [u8]) {
+    show(
+        b"64 and 4032 exchanged",
+        apart(3, 1, 64, 4032),
+        apart(3, 1, 4032, 64),
+        list,
+    );
+    show(
+        b"two shafts, 255 and a blank exchanged",
+        apart(2, 2, 255, blank()),
+        apart(2, 2, blank(), 255),
+        list,
+    );
+}
+
 // m 3, depths 4, 3 and 2, n 6: cassettes 1 to 6, turned by k among the places [. . .] [. .] [.].
 fn uneven(k: usize) -> Store {
     let mut s = empty(3, 4);
     s.depths[1] = 3;
     s.depths[2] = 2;
-    s = with(s, 0, (k % 6 + 1) as u8);
-    s = with(s, 0, ((k % 6 + 1) % 6 + 1) as u8);
-    s = with(s, 0, ((k % 6 + 2) % 6 + 1) as u8);
-    s = with(s, 1, ((k % 6 + 3) % 6 + 1) as u8);
-    s = with(s, 1, ((k % 6 + 4) % 6 + 1) as u8);
-    with(s, 2, ((k % 6 + 5) % 6 + 1) as u8)
+    s = with(s, 0, (k % 6 + 1) as u16);
+    s = with(s, 0, ((k % 6 + 1) % 6 + 1) as u16);
+    s = with(s, 0, ((k % 6 + 2) % 6 + 1) as u16);
+    s = with(s, 1, ((k % 6 + 3) % 6 + 1) as u16);
+    s = with(s, 1, ((k % 6 + 4) % 6 + 1) as u16);
+    with(s, 2, ((k % 6 + 5) % 6 + 1) as u16)
 }
 
 // The same, with the last shaft one deeper.
@@ -312,6 +361,8 @@ fn main() {
     short_cases(b"191 bytes", &mut less);
     short_cases(b"no byte", &mut less[..0]);
     refused_cases(&mut enough);
+    number_cases(&mut enough);
+    exchanged_cases(&mut enough);
     uneven_cases(&mut enough);
     deeper_cases(&mut enough);
     let mut list = [0u8; 18432];

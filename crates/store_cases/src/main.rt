@@ -4,6 +4,7 @@ use depths::equal;
 use libc::STDOUT_FILENO;
 use lifts::Row;
 use lifts::Shaft;
+use marks::Cassette;
 use numbers::answer_number;
 use numbers::end_number;
 use numbers::verdict_number;
@@ -11,9 +12,9 @@ use replay::Replayed;
 use replay::replay;
 use store::Store;
 
-fn say(what: &[u8], number: u8) {
+fn say(what: &[u8], number: u64) {
     io::write_all(STDOUT_FILENO, what);
-    io::print_decimal(STDOUT_FILENO, number as u64);
+    io::print_decimal(STDOUT_FILENO, number);
     io::write_all(STDOUT_FILENO, b"\n");
 }
 
@@ -24,14 +25,14 @@ fn empty(m: u8, h: u8) -> Store {
         m,
         depths,
         heights: [0u8; 16],
-        slots: [0u8; 256],
+        slots: [0u16; 256],
     }
 }
 
 fn check(what: &[u8], s: Store) {
     let checked = s.check();
     let verdict = checked.verdict;
-    say(what, verdict_number(verdict));
+    say(what, verdict_number(verdict) as u64);
 }
 
 // m 3, h 2: [1 2] [] [3]
@@ -56,7 +57,7 @@ fn singles() -> Store {
 }
 
 // The example with another number in a slot, another depth, or another height.
-fn with_slot(i: usize, c: u8) -> Store {
+fn with_slot(i: usize, c: Cassette) -> Store {
     let mut s = example();
     if i < 256 {
         s.slots[i] = c;
@@ -108,6 +109,26 @@ fn slot_cases() {
     check(b"cassette 1 twice: ", with_slot(32, 1));
 }
 
+// The example with two numbers in place of its first cassettes.
+fn with_two(c: Cassette, d: Cassette) -> Store {
+    let mut s = example();
+    s.slots[0] = c;
+    s.slots[1] = d;
+    s
+}
+
+fn number_cases() {
+    check(b"cassettes 254 and 255: ", with_two(254, 255));
+    check(b"cassette 255 twice: ", with_two(255, 255));
+    check(b"cassettes 64 and 4032: ", with_two(64, 4032));
+    check(b"cassettes 4094 and 4030: ", with_two(4094, 4030));
+    check(b"cassette 4094 twice: ", with_two(4094, 4094));
+    check(b"two blanks: ", with_two(4095, 4095));
+    check(b"a cassette 4096: ", with_two(4096, 1));
+    check(b"a cassette 65535: ", with_two(1, 65535));
+    check(b"a cassette 4351: ", with_two(254, 4351));
+}
+
 // Every slot that the value records holds 7.
 fn crowded(m: u8, h: u8) -> Store {
     let depths = equal(m, h);
@@ -115,12 +136,12 @@ fn crowded(m: u8, h: u8) -> Store {
         m,
         depths,
         heights: [0u8; 16],
-        slots: [7u8; 256],
+        slots: [7u16; 256],
     }
 }
 
 fn content(what: &[u8], s: Store, x: u8, y: u8) {
-    say(what, s.content(Shaft(x), Row(y)));
+    say(what, s.content(Shaft(x), Row(y)) as u64);
 }
 
 fn content_cases() {
@@ -151,13 +172,16 @@ fn content_cases() {
 fn lift(what: &[u8], s: Store, from: u8, to: u8) {
     let lifted = s.lift(Shaft(from), Shaft(to));
     let answer = lifted.answer;
-    say(what, answer_number(answer));
+    say(what, answer_number(answer) as u64);
     let carried = lifted.carried;
     let row = carried.row;
-    say(b"  cassette: ", carried.cassette);
-    say(b"  row: ", row.0);
+    say(b"  cassette: ", carried.cassette as u64);
+    say(b"  row: ", row.0 as u64);
     let after = lifted.store;
-    say(b"  there now: ", after.content(Shaft(to), Row(row.0)));
+    say(
+        b"  there now: ",
+        after.content(Shaft(to), Row(row.0)) as u64,
+    );
 }
 
 fn lift_cases() {
@@ -192,14 +216,23 @@ fn say_carries(replayed: Replayed) {
 fn show_replay(what: &[u8], s: Store, list: &[u8]) {
     let replayed = replay(s, list);
     let end = replayed.end;
-    say(what, end_number(end));
+    say(what, end_number(end) as u64);
     io::write_all(STDOUT_FILENO, b"  lifts done: ");
     io::print_decimal(STDOUT_FILENO, replayed.count as u64);
     say_carries(replayed);
     let reached = replayed.store;
-    say(b"\n  shaft 0 row 1: ", reached.content(Shaft(0), Row(1)));
-    say(b"  shaft 1 row 1: ", reached.content(Shaft(1), Row(1)));
-    say(b"  shaft 0 row 0: ", reached.content(Shaft(0), Row(0)));
+    say(
+        b"\n  shaft 0 row 1: ",
+        reached.content(Shaft(0), Row(1)) as u64,
+    );
+    say(
+        b"  shaft 1 row 1: ",
+        reached.content(Shaft(1), Row(1)) as u64,
+    );
+    say(
+        b"  shaft 0 row 0: ",
+        reached.content(Shaft(0), Row(0)) as u64,
+    );
 }
 
 fn replay_cases() {
@@ -215,6 +248,7 @@ fn main() {
     frame_cases();
     depth_cases();
     slot_cases();
+    number_cases();
     content_cases();
     lift_cases();
     replay_cases();
