@@ -1,8 +1,9 @@
 /*
  * How a controller uses Halyardgage: check two images, ask whether the goal
  * can be reached, plan the lifts, and replay them. Then how deep some cassettes
- * are buried, a store with blanks, shafts of unequal depth, and some of the ways
- * in which a call is refused.
+ * are buried, a store with blanks, shafts of unequal depth, numbers past 255,
+ * conversions from form to form, and some of the ways in which a call is
+ * refused.
  *
  *     cc -Iinclude examples/controller.c -Ltarget/staticlib -lhalyardgage
  */
@@ -42,10 +43,27 @@ static unsigned get(const struct image *image, size_t *at, unsigned width)
     return value;
 }
 
-/* The image of a store in form 0 or 1; in form 0 one depth is given. Cassettes
- * are given shaft by shaft from row 1, with 0 at the end of each shaft. */
+/* The bits of a cassette's number in a form. */
+static unsigned width(unsigned form)
+{
+    return form == 2 ? 12 : 8;
+}
+
+/* How many cassettes stand before the 0. */
+static unsigned height(const uint16_t *cassettes)
+{
+    unsigned count = 0;
+    while (cassettes[count] != 0) {
+        ++count;
+    }
+    return count;
+}
+
+/* The image of a store in a form that can hold it; in form 0 one depth is
+ * given. Cassettes are given shaft by shaft from row 1, as the form has them,
+ * with 0 at the end of each shaft. */
 static struct image pack(unsigned form, unsigned m, const uint8_t *depths,
-                         const uint8_t *cassettes)
+                         const uint16_t *cassettes)
 {
     struct image image;
     size_t at = 0;
@@ -59,9 +77,9 @@ static struct image pack(unsigned form, unsigned m, const uint8_t *depths,
         if (form != 0) {
             put(&image, &at, 4, *depths++ - 1u);
         }
-        put(&image, &at, 5, (unsigned)strlen((const char *)cassettes));
+        put(&image, &at, 5, height(cassettes));
         while (*cassettes != 0) {
-            put(&image, &at, 8, *cassettes++);
+            put(&image, &at, width(form), *cassettes++);
         }
         ++cassettes;
     }
@@ -69,39 +87,49 @@ static struct image pack(unsigned form, unsigned m, const uint8_t *depths,
 }
 
 /* The image of m shafts that are all h deep. */
-static struct image pack_even(unsigned m, uint8_t h, const uint8_t *cassettes)
+static struct image pack_even(unsigned m, uint8_t h, const uint16_t *cassettes)
 {
     return pack(0, m, &h, cassettes);
 }
 
-/* Prints a store, as [1 2] [] [3], bottom first, and gives how many bytes its
- * image has. The image has been checked. */
-static size_t print_store(const char *name, const struct image *image)
+/* Prints the cassette of a field, as its number or as b for a blank. */
+static void print_cassette(unsigned form, unsigned field)
 {
-    size_t at = 0;
-    unsigned form = get(image, &at, 4);
+    if (field == (form == 2 ? HALYARD_BLANK : 255)) {
+        printf("b");
+    } else {
+        printf("%u", field);
+    }
+}
+
+/* Prints a store, as [1 2] [] [3], bottom first, with b for a blank. The image
+ * has been checked. */
+static void print_store(const char *name, const struct image *image)
+{
+    size_t at = 4;
+    unsigned form = halyard_form(image->bytes[0]);
     unsigned m = get(image, &at, 4) + 1;
     printf("%-10s", name);
     at += form == 0 ? 4 : 0;
     while (m-- > 0) {
-        unsigned height;
+        unsigned left;
         at += form == 0 ? 0 : 4;
-        height = get(image, &at, 5);
+        left = get(image, &at, 5);
         printf(" [");
-        while (height-- > 0) {
-            printf("%u%s", get(image, &at, 8), height > 0 ? " " : "");
+        while (left-- > 0) {
+            print_cassette(form, get(image, &at, width(form)));
+            printf("%s", left > 0 ? " " : "");
         }
         printf("]");
     }
     printf("\n");
-    return (at + 7) / 8;
 }
 
 /* What a refusal means. */
 static const char *meaning(int number)
 {
     switch (number) {
-    case HALYARD_FORM: return "the form is above 1";
+    case HALYARD_FORM: return "the form is above 2";
     case HALYARD_IMAGE_ENDS: return "the image ends too early";
     case HALYARD_HEIGHT: return "a shaft is higher than its depth";
     case HALYARD_CASSETTE_ZERO: return "a cassette has number 0";
@@ -116,6 +144,7 @@ static const char *meaning(int number)
     case HALYARD_UNREACHABLE: return "no list of lifts leads to the goal";
     case HALYARD_ABSENT: return "it is not in the store";
     case HALYARD_BURIED: return "no list of lifts uncovers it";
+    case HALYARD_FORM_CANNOT_HOLD: return "the form can't hold the store";
     default: return "a number that no call returns";
     }
 }
@@ -151,7 +180,8 @@ static int reachable(const struct image *start, const struct image *goal)
 }
 
 /* Does a list on a store, prints how far it went, and gives what stands then.
- * The image has been checked and there is room, so that a store is written. */
+ * The image has been checked and there is room, so that a store is written, in
+ * as many bytes as the image has. */
 static struct image replayed(const struct image *start, const uint8_t *list,
                              size_t list_len)
 {
@@ -161,7 +191,8 @@ static struct image replayed(const struct image *start, const uint8_t *list,
     if (!good("replay", answer, "every lift done")) {
         printf("  lifts done before that: %" PRIu64 "\n", halyard_count(answer));
     }
-    end.len = print_store("reached", &end);
+    end.len = start->len;
+    print_store("reached", &end);
     return end;
 }
 
@@ -172,6 +203,20 @@ static void print_lifts(const uint8_t *list, uint64_t count)
         printf("  lift %" PRIu64 " from shaft %u to shaft %u\n", i + 1,
                halyard_left(list[i]), halyard_entered(list[i]));
     }
+}
+
+/* Do two images stand for one store? They may have different forms, so that
+ * both are compared in form 2, which holds every store. */
+static int same_store(const struct image *one, const struct image *other)
+{
+    struct image first, second;
+    uint64_t answer = halyard_convert(one->bytes, one->len, 2, first.bytes,
+                                      sizeof first.bytes);
+    uint64_t next = halyard_convert(other->bytes, other->len, 2, second.bytes,
+                                    sizeof second.bytes);
+    size_t len = (size_t)halyard_count(answer);
+    return halyard_number(answer) == HALYARD_OK && answer == next &&
+           memcmp(first.bytes, second.bytes, len) == 0;
 }
 
 /* The whole use: from two images to a list that has been replayed. Gives
@@ -196,8 +241,7 @@ static int planned(const struct image *start, const struct image *goal,
         print_lifts(list, halyard_count(answer));
     }
     end = replayed(start, list, (size_t)halyard_count(answer));
-    return end.len == goal->len &&
-           memcmp(end.bytes, goal->bytes, goal->len) == 0;
+    return same_store(&end, goal);
 }
 
 /* Asks how deep some cassettes of a store are buried, and prints the answers.
@@ -223,45 +267,96 @@ static int asked(const struct image *store, struct halyard_order *orders,
     return 1;
 }
 
-/* A store with blanks: a plan, and how deep the nearest blank is buried. Gives
- * whether all was good. */
+/* A store with blanks: a plan, and how deep the nearest blank is buried. The
+ * images are in form 0, where a blank is the byte 255; an order names it by its
+ * number. Gives whether all was good. */
 static int blanks(void)
 {
-    enum { BLANK = HALYARD_BLANK };
-    static const uint8_t cassettes[] = {1, BLANK, 2, 0, BLANK, BLANK, 3, 4, 0, 0};
-    static const uint8_t wanted[] = {BLANK, 2, 4, 1, 0, 3, BLANK, BLANK, 0, 0};
+    enum { B = 255 };
+    static const uint16_t cassettes[] = {1, B, 2, 0, B, B, 3, 4, 0, 0};
+    static const uint16_t wanted[] = {B, 2, 4, 1, 0, 3, B, B, 0, 0};
     struct image start = pack_even(3, 4, cassettes);
     struct image goal = pack_even(3, 4, wanted);
-    struct halyard_order orders[] = {{BLANK, 0, 0}};
+    struct halyard_order orders[] = {{HALYARD_BLANK, 0, 0}};
 
-    printf("\nBlanks, number %d, which nobody tells apart\n", BLANK);
+    printf("\nBlanks, number %d, which nobody tells apart\n", HALYARD_BLANK);
     return planned(&start, &goal, 0) & asked(&start, orders, 1);
 }
 
-/* Shafts of unequal depth: a plan. Then a store of equal depths in form 1, which
- * a replay writes in form 0. Gives whether all was good. */
+/* Shafts of unequal depth: a plan. Gives whether it was good. */
 static int depths(void)
 {
-    static const uint8_t uneven[] = {3, 2, 2}, even[] = {2, 2, 2};
-    static const uint8_t cassettes[] = {1, 2, 3, 0, 4, 0, 5, 0};
-    static const uint8_t wanted[] = {1, 3, 0, 2, 4, 0, 5, 0};
-    static const uint8_t fewer[] = {1, 2, 0, 0, 3, 0};
+    static const uint8_t uneven[] = {3, 2, 2};
+    static const uint16_t cassettes[] = {1, 2, 3, 0, 4, 0, 5, 0};
+    static const uint16_t wanted[] = {1, 3, 0, 2, 4, 0, 5, 0};
     struct image start = pack(1, 3, uneven, cassettes);
     struct image goal = pack(1, 3, uneven, wanted);
-    struct image given = pack(1, 3, even, fewer), written;
-    int all_good;
 
     printf("\nThree shafts of depths 3, 2 and 2: at most %u lifts\n",
            (unsigned)HALYARD_LIST_SPACE(3, 5));
-    all_good = planned(&start, &goal, 0);
+    return planned(&start, &goal, 0);
+}
 
-    printf("\nThree shafts of depth 2 in form 1, which needs %u bytes\n",
-           (unsigned)HALYARD_IMAGE_LENGTH(1, 3, 3));
-    written = replayed(&given, NULL, 0);
-    printf("  given in %u bytes, written in %u\n", (unsigned)given.len,
-           (unsigned)written.len);
-    return all_good && given.len == HALYARD_IMAGE_LENGTH(1, 3, 3) &&
-           written.len == HALYARD_IMAGE_LENGTH(0, 3, 3);
+/* Numbers past 255, which form 2 has: a plan, and how deep some cassettes are
+ * buried. 255 is one of them, and no blank. Gives whether all was good. */
+static int numbers(void)
+{
+    enum { B = HALYARD_BLANK };
+    static const uint8_t uneven[] = {3, 2, 2};
+    static const uint16_t cassettes[] = {1, 255, 4094, 0, 300, 0, B, 0};
+    static const uint16_t wanted[] = {1, 300, B, 0, 255, 0, 4094, 0};
+    struct image start = pack(2, 3, uneven, cassettes);
+    struct image goal = pack(2, 3, uneven, wanted);
+    struct halyard_order orders[] = {{255, 0, 0}, {B, 0, 0}, {301, 0, 0}};
+
+    printf("\nNumbers past 255, in form 2\n");
+    return planned(&start, &goal, 0) &
+           asked(&start, orders, sizeof orders / sizeof orders[0]);
+}
+
+/* Writes a store in the form named, and prints what came of it. Gives the
+ * image, which has no byte where the call was refused. */
+static struct image converted(const struct image *given, uint8_t form)
+{
+    struct image written;
+    uint64_t answer = halyard_convert(given->bytes, given->len, form,
+                                      written.bytes, sizeof written.bytes);
+    printf("from form %u to form %u\n", halyard_form(given->bytes[0]), form);
+    written.len = (size_t)halyard_count(answer);
+    if (good("convert", answer, "written")) {
+        printf("  given in %u bytes, written in %u\n", (unsigned)given->len,
+               (unsigned)written.len);
+        print_store("  store", &written);
+    }
+    return written;
+}
+
+/* One store in two forms, which start and goal may come in; then stores that a
+ * form can't hold. Gives whether all was good. */
+static int forms(void)
+{
+    static const uint8_t even[] = {2, 2, 2}, uneven[] = {2, 2, 1};
+    static const uint16_t cassettes[] = {1, 255, 0, 0, 3, 0};
+    static const uint16_t past[] = {1, 300, 0, 0, 3, 0};
+    struct image zero = pack(0, 3, even, cassettes);
+    struct image one = pack(1, 3, uneven, cassettes);
+    struct image two = pack(2, 3, even, past);
+    struct image wide, back;
+
+    printf("\nOne store in two forms\n");
+    wide = converted(&zero, 2);
+    back = converted(&wide, 0);
+    reachable(&zero, &wide);
+
+    printf("\nStores that a form can't hold, and a form that there is not\n");
+    converted(&one, 0);
+    converted(&two, 1);
+    converted(&two, 3);
+    return zero.len == HALYARD_IMAGE_LENGTH(0, 3, 3) &&
+           one.len == HALYARD_IMAGE_LENGTH(1, 3, 3) &&
+           wide.len == HALYARD_IMAGE_LENGTH(2, 3, 3) &&
+           back.len == zero.len &&
+           memcmp(back.bytes, zero.bytes, zero.len) == 0;
 }
 
 /* Plans with nothing lent. */
@@ -276,7 +371,7 @@ static void planned_into_nothing(const struct image *start,
 /* Some of the ways in which a call is refused. */
 static void refusals(const struct image *start, const struct image *goal)
 {
-    static const uint8_t other_order[] = {2, 0, 5, 4, 3, 1, 0};
+    static const uint16_t other_order[] = {2, 0, 5, 4, 3, 1, 0};
     static const uint8_t list[] = {0x01, 0x10, 0x11};
     struct image image = pack_even(2, 4, other_order);
 
@@ -298,15 +393,15 @@ static void refusals(const struct image *start, const struct image *goal)
 
 int main(void)
 {
-    static const uint8_t two[] = {1, 2, 3, 4, 0, 5, 0};
-    static const uint8_t two_goal[] = {1, 0, 5, 4, 3, 2, 0};
-    static const uint8_t three[] = {1, 4, 5, 6, 0, 2, 7, 8, 0, 3, 9, 0};
-    static const uint8_t three_goal[] = {1, 9, 0, 2, 6, 5, 4, 0, 3, 8, 7, 0};
+    static const uint16_t two[] = {1, 2, 3, 4, 0, 5, 0};
+    static const uint16_t two_goal[] = {1, 0, 5, 4, 3, 2, 0};
+    static const uint16_t three[] = {1, 4, 5, 6, 0, 2, 7, 8, 0, 3, 9, 0};
+    static const uint16_t three_goal[] = {1, 9, 0, 2, 6, 5, 4, 0, 3, 8, 7, 0};
     struct image start = pack_even(2, 4, two);
     struct image goal = pack_even(2, 4, two_goal);
     struct image start3 = pack_even(3, 4, three);
     struct image goal3 = pack_even(3, 4, three_goal);
-    static const uint8_t fuller[] = {1, 4, 5, 6, 0, 2, 7, 8, 0, 3, 9, 10, 0};
+    static const uint16_t fuller[] = {1, 4, 5, 6, 0, 2, 7, 8, 0, 3, 9, 10, 0};
     struct image store = pack_even(3, 4, fuller);
     struct halyard_order orders[] = {
         {7, 0, 0}, {4, 0, 0}, {1, 0, 0}, {10, 0, 0}, {11, 0, 0}};
@@ -325,6 +420,8 @@ int main(void)
 
     all_good &= blanks();
     all_good &= depths();
+    all_good &= numbers();
+    all_good &= forms();
     refusals(&start, &goal);
     return all_good ? 0 : 1;
 }

@@ -2,52 +2,62 @@
  * Halyardgage: plans the lifts of a sample changer.
  *
  * A store has m shafts, 1 to 16, each with a depth of its own, 1 to 16. Shafts
- * count from 0, rows from 1 at the bottom. A cassette is a number 1 to 255. No
- * cassette stands twice but the blank. A lift takes the top cassette of one
+ * count from 0, rows from 1 at the bottom. A cassette is a number 1 to 4,095.
+ * No cassette stands twice but the blank. A lift takes the top cassette of one
  * shaft and sets it on top of another. Where a count of bytes below goes by h,
  * that is the depth of the deepest shaft.
  *
- * BLANKS. The number HALYARD_BLANK is an empty carrier, and may stand any
- * number of times: a store may hold as many cassettes as it has slots. Blanks
- * are not told apart. A goal is reached when each slot shows the right number,
- * whichever blank stands there, and an order that names the blank is answered
- * for the one that is uncovered soonest.
+ * BLANKS. The number HALYARD_BLANK, 4,095, is an empty carrier, and may stand
+ * any number of times: a store may hold as many cassettes as it has slots.
+ * Blanks are not told apart. A goal is reached when each slot shows the right
+ * number, whichever blank stands there, and an order that names the blank is
+ * answered for the one that is uncovered soonest.
  *
  * IMAGES. The calls take stores as images. Fields are packed most significant
- * bit first, with no gaps, and zero bits fill the last byte. There are two
+ * bit first, with no gaps, and zero bits fill the last byte. There are three
  * forms:
  *   - form 0, for shafts of equal depth: form (4 bits, value 0), m - 1 (4),
  *     depth - 1 (4); then for each shaft from 0 its height (5) and its
  *     cassettes from row 1 upward (8 each);
  *   - form 1, for shafts of any depths: form (4 bits, value 1), m - 1 (4); then
  *     for each shaft from 0 its depth - 1 (4), its height (5) and its cassettes
- *     from row 1 upward (8 each).
+ *     from row 1 upward (8 each);
+ *   - form 2, for shafts of any depths and cassettes of any number: form 1 with
+ *     the value 2 and 12 bits for each cassette.
+ * In forms 0 and 1 the byte 255 is the blank, and the other cassettes are those
+ * from 1 to 254. In form 2 the number 255 is a cassette like any other, and
+ * 4,095 is the blank.
  * In hexadecimal 02 11 00 81 00 20 60 is three shafts of depth 2, [1 2] [] [3],
- * bottom first, and 12 21 80 81 01 88 41 04 20 A0 is three shafts of depths 3,
- * 2 and 2, [1 2 3] [4] [5].
- * Every call reads both forms, and two stores are compared by what stands
- * where, whatever their forms. What a call writes is in form 0 exactly if all
- * depths are equal. So an image in form 1 with equal depths stands for the same
- * store as its form 0 image; no other two images stand for one store. (Proved:
- * other-bytes and two-images, in crates/image/proofs/RoundTrip.antt.)
+ * bottom first; 12 21 80 81 01 88 41 04 20 A0 is three shafts of depths 3, 2
+ * and 2, [1 2 3] [4] [5]; and 22 21 80 08 7F FF F0 84 4B 04 3F FE is shafts of
+ * the same depths, [1 255 4094] [300] and one with a blank.
+ * Every call reads all three forms, and goes by what an image means: start and
+ * goal may come in different forms, and an order names 4,095 for a blank,
+ * whatever the form. An image is written in the form that the caller names:
+ * halyard_convert takes its number, and halyard_replay writes in the form of
+ * the image given. A store has one image in each form that can hold it, which
+ * reads as that store, and an accepted image is the image of its store in the
+ * form that it names. (Proved: image-read and read-image, in
+ * crates/image/proofs/RoundTrip.antt.)
  *
  * LISTS. A list is bytes, one for each lift: the shaft left in the high four
  * bits, the shaft entered in the low four.
  *
  * ORDERS. An order is a record that names a cassette and receives an answer of
- * its own: a number, and a count of lifts. They come in a row.
+ * its own: a number, and a count of lifts. They come in a row. Any 16 bits may
+ * be named: 255 is cassette 255, and HALYARD_BLANK is for a blank.
  *
  * ANSWERS. Each call returns count * 256 + number. halyard_number() and
  * halyard_count() take the two apart. The count has 56 bits: of a greater one
  * the low 56 bits are given, which only a replay of 2^56 lifts or more could
  * meet. The number is HALYARD_OK, or says why the call was refused or where a
- * replay stopped. If several reasons apply,
- * the first one met is given:
+ * replay stopped. If several reasons apply, the first one met is given:
  *   - an image is read field by field, the start before the goal, and a fault
  *     of reading comes before any other;
  *   - for two stores then 8, 9, 15, 10;
  *   - for a replay then 10, before any lift is tried, and for each lift 11,
  *     13, 14;
+ *   - for a conversion then 1 for the form named, 18, 10;
  *   - for an order, in its own record, 16, 17. An order that fails does not
  *     make the call fail.
  * A refused call returns count 0 and writes nothing.
@@ -55,9 +65,10 @@
  * WHAT THE CALLER OWES
  *   - Each pointer has at least as many bytes, or orders, as the length after
  *     it says. It may be NULL where that length is 0.
- *   - What a call may write (list of halyard_plan, out of halyard_replay,
- *     orders of halyard_uncover) overlaps nothing else that is passed. Bytes
- *     that are only read may overlap: start and goal may be the same bytes.
+ *   - What a call may write (list of halyard_plan, out of halyard_replay and
+ *     halyard_convert, orders of halyard_uncover) overlaps nothing else that is
+ *     passed. Bytes that are only read may overlap: start and goal may be the
+ *     same bytes.
  *   - orders are aligned as C aligns struct halyard_order, and every field of
  *     every order has some value: whole orders are read and written, a cassette
  *     with the value it had. Which value stands where the answer goes does not
@@ -65,8 +76,8 @@
  *   - During the call no other thread writes to anything that is passed, nor
  *     reads what the call may write.
  * Lent bytes need not be cleared. Nothing else is asked: any bytes may be
- * passed as an image or as a list, and a call refuses what is none; an order
- * may name any number.
+ * passed as an image or as a list, and a call refuses what is none; any 8 bits
+ * may be named as a form, and any 16 in an order.
  *
  * The library allocates nothing and keeps nothing between calls, so that any
  * thread may call it at any time.
@@ -85,10 +96,12 @@ extern "C" {
 
 /* The numbers. */
 enum {
-    HALYARD_OK = 0, /* accepted; yes; a list; run through; an order answered */
+    HALYARD_OK = 0, /* accepted; yes; a list; run through; converted; an order
+                       answered */
 
     /* refused because of the input */
-    HALYARD_FORM = 1,              /* the image's form is above 1 */
+    HALYARD_FORM = 1,              /* a form above 2, read or named for
+                                      writing */
     HALYARD_IMAGE_ENDS = 2,        /* the image ends before its last field */
     HALYARD_HEIGHT = 3,            /* a height above the shaft's depth */
     HALYARD_CASSETTE_ZERO = 4,     /* a cassette number 0 */
@@ -105,6 +118,10 @@ enum {
                                       shaft twice */
     HALYARD_STORE_VALUE = 12,      /* a store that is no image is malformed:
                                       no call here returns it */
+    HALYARD_FORM_CANNOT_HOLD = 18, /* the store has a cassette from 255 to
+                                      4,094 and the form named is 0 or 1, or
+                                      it has unequal depths and the form is
+                                      0 */
 
     /* refused because of the state */
     HALYARD_SHAFT_EMPTY = 13, /* the shaft left is empty */
@@ -125,16 +142,17 @@ struct halyard_order {
 };
 
 /* The cassette number of a blank. */
-#define HALYARD_BLANK 255
+#define HALYARD_BLANK 4095
 
-/* The bytes of an image in form 0 or 1, of m shafts with n cassettes, blanks
+/* The bytes of an image in form 0, 1 or 2, of m shafts with n cassettes, blanks
  * included, and the most that an image has: 16 shafts of depth 16, full, in
- * form 1. What a call writes has at most 274. (Proved: length-image, longest
- * and longest-written, in crates/image/proofs/Lengths.antt.) */
+ * form 2. (Proved: length-image and longest, in
+ * crates/image/proofs/Lengths.antt.) */
 #define HALYARD_IMAGE_LENGTH(form, m, n)                              \
     ((8 + 4 * ((form) == 0 ? (size_t)1 : (size_t)(m)) +               \
-      5 * (size_t)(m) + 8 * (size_t)(n) + 7) / 8)
-#define HALYARD_IMAGE_MAX 275
+      5 * (size_t)(m) +                                               \
+      ((form) == 2 ? (size_t)12 : (size_t)8) * (size_t)(n) + 7) / 8)
+#define HALYARD_IMAGE_MAX 403
 
 /* The list space that halyard_plan() asks for, in bytes, where the deepest
  * shaft has depth h and there are n cassettes, blanks included, and the most
@@ -154,6 +172,12 @@ static inline int halyard_number(uint64_t answer)
 static inline uint64_t halyard_count(uint64_t answer)
 {
     return answer / 256;
+}
+
+/* The form that an image names, from its first byte. */
+static inline uint8_t halyard_form(uint8_t first)
+{
+    return (uint8_t)(first / 16u);
 }
 
 /* The shaft that a lift leaves. */
@@ -211,23 +235,38 @@ uint64_t halyard_plan(const uint8_t *start, size_t start_len,
  * Does the lifts of a list on a store, and writes the image of the store
  * reached.
  *
- * Reads image and list. out_len must be at least the length of the image that
- * is written. That is image_len, but where image is in form 1 and all its
- * depths are equal: then the form 0 image is written, which has
- * HALYARD_IMAGE_LENGTH(0, m, n) bytes. It is never longer than the image given,
- * so that image_len bytes are always enough. (Proved: no-longer, in
- * crates/image/proofs/RoundTrip.antt.)
+ * Reads image and list. The store reached is written in the form of image, so
+ * that what is written has image_len bytes, and out_len must be at least
+ * image_len. (Proved: replay-as-long, in
+ * crates/replay_call/proofs/ReplayAnswers.antt.)
  * Returns HALYARD_OK and list_len as the count where every lift was done. Where
  * one could not be done, returns its number, 11, 13 or 14, and the count of
- * lifts done before it; it has changed nothing. In both cases the first bytes
- * of out are then the image of the store reached, and the rest stay as they
- * came.
+ * lifts done before it; it has changed nothing. In both cases the first
+ * image_len bytes of out are then the image of the store reached, and the rest
+ * stay as they came.
  * Otherwise it writes nothing and returns, with count 0, the first fault of
  * reading, 1 to 5 or 7, or HALYARD_SPACE.
  */
 uint64_t halyard_replay(const uint8_t *image, size_t image_len,
                         const uint8_t *list, size_t list_len,
                         uint8_t *out, size_t out_len);
+
+/*
+ * Writes the store of an image in the form named, 0, 1 or 2.
+ *
+ * Reads image. out_len must be at least HALYARD_IMAGE_LENGTH(form, m, n);
+ * HALYARD_IMAGE_MAX is enough for every store.
+ * Returns HALYARD_OK and as the count the bytes of the image written; that many
+ * of the first bytes of out are then the image, and the rest stay as they came.
+ * In the form that image has, they are its own bytes, and what was converted to
+ * another form and back is too. (Proved: converted-own and converted-back, in
+ * crates/convert_call/proofs/Converted.antt.)
+ * Otherwise it writes nothing and returns, with count 0, the first fault of
+ * reading, 1 to 5 or 7, or HALYARD_FORM where the form named is above 2, or
+ * HALYARD_FORM_CANNOT_HOLD, which no lent space cures, or HALYARD_SPACE.
+ */
+uint64_t halyard_convert(const uint8_t *image, size_t image_len, uint8_t form,
+                         uint8_t *out, size_t out_len);
 
 /*
  * How deep is each cassette of a row of orders buried?
