@@ -55,6 +55,20 @@ pub fn replay(case: &Case, list: &[u8], out: &mut [u8]) -> Answer {
     })
 }
 
+/// Writes the store of an image in a form.
+pub fn convert(image: &[u8], form: u8, out: &mut [u8]) -> Answer {
+    // SAFETY: each pointer has as many bytes as are named, and the two do not overlap.
+    Answer::from_bits(unsafe {
+        c::halyard_convert(
+            image.as_ptr(),
+            image.len(),
+            form,
+            out.as_mut_ptr(),
+            out.len(),
+        )
+    })
+}
+
 /// Answers a row of orders on the start.
 pub fn uncover(case: &Case, orders: &mut [Order]) -> Answer {
     let image = &case.start_image;

@@ -1,25 +1,51 @@
 //! The random stores that everything is timed on.
 
-use halyard_model::store::MOST_CASSETTE;
-use halyard_model::{Random, Store, image};
+use halyard_model::image;
+use halyard_model::store::{BLANK, MOST_ORDINARY};
+use halyard_model::{Random, Store};
 use halyard_outside::calls::Order;
 use std::fmt::{self, Display};
 
-/// The depth of each shaft, and empty slots, and whether half of the cassettes are blanks; if not, all cassettes are different.
+/// Which cassettes stand in a store.
+#[derive(Clone, Copy, PartialEq, Eq)]
+pub enum Cassettes {
+    /// All different, of the numbers that a byte holds, a blank perhaps among them.
+    Different,
+    /// Half of them blanks, and the others as above.
+    HalfBlank,
+    /// All different, of numbers that only form 2 holds.
+    PastAByte,
+}
+
+/// The numbers that a byte holds: 1 to 254, and the blank's.
+fn numbers_of_a_byte() -> Vec<u16> {
+    (1..=254).chain([BLANK]).collect()
+}
+
+/// As many numbers from 255 to 4,094, as far apart as they can be.
+fn numbers_past_a_byte() -> Vec<u16> {
+    (0..255).map(|i| MOST_ORDINARY - 15 * i).collect()
+}
+
+/// The depth of each shaft, empty slots, and which cassettes there are.
 pub struct Shape {
     pub depths: Vec<usize>,
     pub e: usize,
-    pub half_blank: bool,
+    pub cassettes: Cassettes,
 }
 
 impl Display for Shape {
     fn fmt(&self, f: &mut fmt::Formatter) -> fmt::Result {
-        let blank = if self.half_blank { ", half blank" } else { "" };
+        let cassettes = match self.cassettes {
+            Cassettes::Different => "",
+            Cassettes::HalfBlank => ", half blank",
+            Cassettes::PastAByte => ", form 2",
+        };
         let (m, least, most) = (self.depths.len(), self.shallowest(), self.deepest());
         if self.equal_depths() {
-            write!(f, "{m} × {most}{blank}")
+            write!(f, "{m} × {most}{cassettes}")
         } else {
-            write!(f, "{m} shafts of depths {least} to {most}{blank}")
+            write!(f, "{m} shafts of depths {least} to {most}{cassettes}")
         }
     }
 }
@@ -54,19 +80,22 @@ impl Shape {
     }
 }
 
-/// 3 x 16, 4 x 16, 8 x 8 and 16 x 16 with 1, h/2, h and 2h empty slots, 16 x 16 with h empty slots and half of the cassettes blank, and sixteen shafts of depth
-/// 1, 2 and so on to 16 with 16 empty slots.
+/// 3 x 16, 4 x 16, 8 x 8 and 16 x 16 with 1, h/2, h and 2h empty slots, 16 x 16 with h empty slots and half of the cassettes blank, sixteen shafts of depth 1, 2
+/// and so on to 16 with 16 empty slots, and 16 x 16 with h empty slots and numbers past a byte.
 pub fn shapes() -> Vec<Shape> {
-    let shape = |depths, e, half_blank| Shape {
+    let shape = |depths, e, cassettes| Shape {
         depths,
         e,
-        half_blank,
+        cassettes,
     };
     [(3, 16), (4, 16), (8, 8), (16, 16)]
         .into_iter()
-        .flat_map(|(m, h)| [1, h / 2, h, 2 * h].map(|e| shape(vec![h; m], e, false)))
-        .chain([shape(vec![16; 16], 16, true)])
-        .chain([shape((1..=16).collect(), 16, false)])
+        .flat_map(|(m, h)| [1, h / 2, h, 2 * h].map(|e| shape(vec![h; m], e, Cassettes::Different)))
+        .chain([
+            shape(vec![16; 16], 16, Cassettes::HalfBlank),
+            shape((1..=16).collect(), 16, Cassettes::Different),
+            shape(vec![16; 16], 16, Cassettes::PastAByte),
+        ])
         .collect()
 }
 
@@ -79,10 +108,11 @@ pub struct Case {
 }
 
 impl Case {
+    /// Both in the first form that holds them.
     pub fn new(start: Store, goal: Store) -> Case {
         Case {
-            start_image: image::write(&start),
-            goal_image: image::write(&goal),
+            start_image: image::write_first(&start),
+            goal_image: image::write_first(&goal),
             start,
             goal,
         }
@@ -96,21 +126,38 @@ pub fn cases(random: &mut Random, shape: &Shape, count: usize) -> Vec<Case> {
 
 fn case(random: &mut Random, shape: &Shape) -> Case {
     let n = shape.n();
-    let cassettes = if shape.half_blank {
-        random.cassettes_with_blanks(n, n / 2)
-    } else {
-        random.cassettes(n)
+    let cassettes = match shape.cassettes {
+        Cassettes::Different => some_of(random, numbers_of_a_byte(), n),
+        Cassettes::HalfBlank => half_blank(random, n),
+        Cassettes::PastAByte => some_of(random, numbers_past_a_byte(), n),
     };
     let start = random.in_shafts(&shape.depths, cassettes);
     let goal = random.reachable_goal(&start);
     Case::new(start, goal)
 }
 
-/// An order for each cassette number, the blank's included, in random order.
-pub fn orders(random: &mut Random) -> Vec<Order> {
-    random
-        .cassettes(MOST_CASSETTE)
-        .into_iter()
-        .map(|cassette| Order::naming(cassette.into(), random))
-        .collect()
+/// `count` cassettes of which half are blanks, in random order.
+fn half_blank(random: &mut Random, count: usize) -> Vec<u16> {
+    let mut cassettes = some_of(random, (1..=254).collect(), count - count / 2);
+    cassettes.resize(count, BLANK);
+    random.shuffle(&mut cassettes);
+    cassettes
+}
+
+/// `count` of some numbers, in random order.
+fn some_of(random: &mut Random, mut numbers: Vec<u16>, count: usize) -> Vec<u16> {
+    random.shuffle(&mut numbers);
+    numbers.truncate(count);
+    numbers
+}
+
+/// An order for each of the 255 numbers that the cassettes of a shape are taken from, in random order.
+pub fn orders(random: &mut Random, shape: &Shape) -> Vec<Order> {
+    let mut numbers = match shape.cassettes {
+        Cassettes::Different | Cassettes::HalfBlank => numbers_of_a_byte(),
+        Cassettes::PastAByte => numbers_past_a_byte(),
+    };
+    random.shuffle(&mut numbers);
+    let order = |number| Order::naming(number, random);
+    numbers.into_iter().map(order).collect()
 }

@@ -3,7 +3,7 @@
 
 use crate::cases::Case;
 use crate::thesis::{self, Grid};
-use halyard_model::store::BLANK;
+use halyard_model::store::{BLANK, NUMBERS};
 use halyard_model::{Store, image, play, rule};
 use halyard_outside::calls::{Answer, Order};
 use halyard_outside::expected;
@@ -38,13 +38,13 @@ pub fn plan(case: &Case, list: &mut [u8]) -> Answer {
 }
 
 /// Gives each blank but the first a number that the store has not: the thesis's blocks all differ. Two stores with the same cassettes get the same numbers,
-/// so that the first blank of the one is to be the first of the other, and so on. With h empty slots or more there are enough numbers.
+/// so that the first blank of the one is to be the first of the other, and so on.
 fn tell_blanks_apart(store: &mut Store) {
     if store.blanks() < 2 {
         return;
     }
-    let counts = counts(store);
-    let mut absent = (1..=BLANK).filter(|&number| counts[usize::from(number)] == 0);
+    let Held { marks, .. } = held(store);
+    let mut absent = (1..BLANK).filter(|&number| !marked(&marks, number));
     let slots = store.shafts.iter_mut().flatten();
     for blank in slots.filter(|slot| **slot == BLANK).skip(1) {
         *blank = absent.next().expect("a number for each blank");
@@ -53,11 +53,12 @@ fn tell_blanks_apart(store: &mut Store) {
 
 /// Replays a list on the start. It counts no carries, as the C call counts none.
 pub fn replay(case: &Case, list: &[u8], out: &mut [u8]) -> Answer {
-    let mut store = match image::read(&case.start_image) {
-        Ok(store) => store,
-        Err(number) => return Answer::of(number, 0),
+    let given = &case.start_image;
+    let (form, mut store) = match (image::form_of(given), image::read(given)) {
+        (Ok(form), Ok(store)) => (form, store),
+        (Err(number), _) | (_, Err(number)) => return Answer::of(number, 0),
     };
-    if out.len() < image::length(&store) {
+    if out.len() < given.len() {
         return Answer::of(10, 0);
     }
     let (mut count, mut number) = (0, 0);
@@ -68,9 +69,21 @@ pub fn replay(case: &Case, list: &[u8], out: &mut [u8]) -> Answer {
         }
         count += 1;
     }
-    let image = image::write(&store);
+    let image = image::write_in(&store, form);
     out[..image.len()].copy_from_slice(&image);
     Answer::of(number, count)
+}
+
+/// Writes the store of an image in a form.
+pub fn convert(image: &[u8], form: u8, out: &mut [u8]) -> Answer {
+    match image::convert(image, form) {
+        Err(number) => Answer::of(number, 0),
+        Ok(image) if out.len() < image.len() => Answer::of(10, 0),
+        Ok(image) => {
+            out[..image.len()].copy_from_slice(&image);
+            Answer::of(0, image.len())
+        }
+    }
 }
 
 /// Answers a row of orders on the start, in place.
@@ -91,7 +104,7 @@ fn fewest_lifts(store: &Store, number: u16) -> Result<usize, u8> {
     let mut answer = Err(16);
     for (at, shaft) in store.shafts.iter().enumerate() {
         let mut downward = shaft.iter().rev();
-        let Some(above) = downward.position(|&it| u16::from(it) == number) else {
+        let Some(above) = downward.position(|&it| it == number) else {
             continue;
         };
         let row = shaft.len() - above;
@@ -100,7 +113,7 @@ fn fewest_lifts(store: &Store, number: u16) -> Result<usize, u8> {
         } else {
             Ok(above)
         };
-        if number != BLANK.into() {
+        if number != BLANK {
             return found;
         }
         answer = nearer(answer, found);
@@ -123,19 +136,36 @@ fn pair(case: &Case) -> Result<(Store, Store), u8> {
     if start.depths != goal.depths {
         return Err(8);
     }
-    if counts(&start) != counts(&goal) {
+    if held(&start) != held(&goal) {
         return Err(9);
     }
     Ok((start, goal))
 }
 
-/// How often each number stands in a store. A table: to sort the cassettes, as the tests do, would take up to half of a yes or no.
-fn counts(store: &Store) -> [u16; 256] {
-    let mut counts = [0; 256];
+/// A bit for each number.
+type Marks = [u64; NUMBERS / 64 + 1];
+
+/// What a store holds: which numbers, the blank's included, and how many cassettes. No other number than the blank's stands twice.
+#[derive(PartialEq)]
+struct Held {
+    marks: Marks,
+    n: usize,
+}
+
+/// Marks: to sort the cassettes, as the tests do, would take up to half of a yes or no.
+fn held(store: &Store) -> Held {
+    let mut marks = [0; NUMBERS / 64 + 1];
     for &cassette in store.shafts.iter().flatten() {
-        counts[usize::from(cassette)] += 1;
+        marks[usize::from(cassette / 64)] |= 1 << (cassette % 64);
     }
-    counts
+    Held {
+        marks,
+        n: store.n(),
+    }
+}
+
+fn marked(marks: &Marks, number: u16) -> bool {
+    marks[usize::from(number / 64)] >> (number % 64) & 1 == 1
 }
 
 #[cfg(test)]
@@ -149,9 +179,12 @@ mod tests {
     fn any_case(random: &mut Random) -> Case {
         let start = inputs::store(random);
         let goal = inputs::goal(random, &start);
-        let mut case = Case::new(start, goal);
-        case.start_image = inputs::image(random, &case.start);
-        case.goal_image = inputs::image(random, &case.goal);
+        let mut case = Case {
+            start_image: inputs::image(random, &start),
+            goal_image: inputs::image(random, &goal),
+            start,
+            goal,
+        };
         match random.below(6) {
             0 => case.start_image = inputs::damaged(random),
             1 => case.goal_image = inputs::damaged(random),
@@ -180,6 +213,20 @@ mod tests {
             let mut theirs = ours.clone();
             let answer = replay(&case, &list, &mut ours);
             assert_eq!(answer, calls::replay(&case, &list, &mut theirs));
+            assert_eq!(ours, theirs);
+        }
+    }
+
+    #[test]
+    fn convert_answers_and_writes_as_the_c_call() {
+        let mut random = Random::new(56);
+        for _ in 0..5_000 {
+            let image = any_case(&mut random).start_image;
+            let form = inputs::form_named(&mut random);
+            let mut ours = vec![7; random.below(2 * image.len() + 1)];
+            let mut theirs = ours.clone();
+            let answer = convert(&image, form, &mut ours);
+            assert_eq!(answer, calls::convert(&image, form, &mut theirs));
             assert_eq!(ours, theirs);
         }
     }

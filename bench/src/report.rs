@@ -3,24 +3,30 @@
 use crate::calls::{self, LENT};
 use crate::cases::{self, Case, Shape};
 use crate::stack;
-use crate::timing::{self, MOST_STORES, Measured};
+use crate::timing::{self, MOST_IMAGE, MOST_STORES, Measured};
 use halyard_model::Random;
+use halyard_model::image::Form;
 use halyard_outside::calls::Order;
 use std::fmt::Write;
 
 /// How many cases a full search is tried on.
 const SEARCHED: usize = 3;
 
-/// The four tables, and how they were made.
+/// The most stack that a call may use, in bytes.
+const MOST_STACK: usize = 64 << 10;
+
+/// The five tables, and how they were made.
 pub fn whole(seed: u64, stores: usize, rounds: usize) -> String {
     let mut random = Random::new(seed);
     let mut table = String::from(HEAD);
     let mut ratios = Ratios::default();
     let mut stacks = Stacks::default();
     let mut orders = Orders::default();
+    let mut conversions = Conversions::default();
     for shape in cases::shapes() {
         let cases = cases::cases(&mut random, &shape, stores);
-        stacks.add(&cases[0], &orders.row);
+        let named = cases::orders(&mut Random::new(1), &shape);
+        stacks.add(&cases[0], &named);
         let [calls, plain] = timing::in_rounds(&shape, &cases, rounds);
         row(&mut table, &shape, "(a)", &calls);
         row(&mut table, &shape, "(b)", &plain);
@@ -29,12 +35,16 @@ pub fn whole(seed: u64, stores: usize, rounds: usize) -> String {
         }
         ratios.add(&shape, &calls, &plain);
         if shape.is_largest() {
-            orders.add(&shape, &cases, rounds);
+            orders.add(&shape, &cases, &named, rounds);
+            if shape.e == shape.deepest() {
+                conversions.add(&shape, &cases, rounds);
+            }
         }
     }
     let notes = notes(seed, stores, rounds);
-    let (ratios, orders, stacks) = (ratios.table(), orders.table(), stacks.table());
-    format!("{notes}\n{table}\n{ratios}\n{orders}\n{stacks}")
+    let (ratios, orders) = (ratios.table(), orders.table());
+    let (conversions, stacks) = (conversions.table(), stacks.table());
+    format!("{notes}\n{table}\n{ratios}\n{orders}\n{conversions}\n{stacks}")
 }
 
 const HEAD: &str = "\
@@ -53,10 +63,10 @@ Processor: {}. Seed {seed}.
   the thesis's own solve, mended, on arrays, which covers equal depths and e ≥ h. (c) is a full search in Rust, from stores that
   have been read already, which also gives the fewest lifts; it is left out where it finds more than {MOST_STORES} stores.
 - \"Half blank\": half of the cassettes are blanks. In all other rows no two cassettes are the same, so that at most one is a
-  blank. The thesis knows no blanks: (b) first gives each a number of its own, in the order in which they stand, in start and
+  blank. \"Form 2\": all cassettes have numbers from 255 to 4,094, which only form 2 holds. The thesis knows no blanks: (b) first gives each a number of its own, in the order in which they stand, in start and
   goal alike, and so brings each to one slot where any blank would do.
-- \"16 shafts of depths 1 to 16\": the first has depth 1, the next 2, and so on. Its images are in form 1, all others in form 0,
-  and in 4hn + 8n the depth h is 16, that of the deepest shaft.
+- \"16 shafts of depths 1 to 16\": the first has depth 1, the next 2, and so on. Its images are in form 1, those of the rows that
+  name form 2 in that, all others in form 0, and in 4hn + 8n the depth h is 16, that of the deepest shaft.
 - Each row has {stores} random pairs of stores, every goal one that can be reached, the same pairs for (a) and (b); for (c)
   the first {SEARCHED} of them. A check is of the start. (a) and (b) replay the same lists, which are (a)'s.
 - Each time is of one call: for each pair the median of {rounds} rounds, and the mean of these over the pairs. A round goes
@@ -168,24 +178,17 @@ fn joined(numbers: [Option<f64>; 4]) -> String {
     numbers.map(decimals).join(" | ")
 }
 
-/// An order for each cassette number, and the times for the whole row on the largest stores.
+/// The times for a whole row of orders on the largest stores.
+#[derive(Default)]
 struct Orders {
-    row: Vec<Order>,
+    count: usize,
     rows: String,
 }
 
-impl Default for Orders {
-    fn default() -> Orders {
-        Orders {
-            row: cases::orders(&mut Random::new(1)),
-            rows: String::new(),
-        }
-    }
-}
-
 impl Orders {
-    fn add(&mut self, shape: &Shape, cases: &[Case], rounds: usize) {
-        let [calls, plain] = timing::orders(cases, &self.row, rounds);
+    fn add(&mut self, shape: &Shape, cases: &[Case], row: &[Order], rounds: usize) {
+        self.count = row.len();
+        let [calls, plain] = timing::orders(cases, row, rounds);
         self.rows += &format!(
             "| {shape} | {} | {} | {} | {} | {} |\n",
             shape.e,
@@ -199,13 +202,54 @@ impl Orders {
     fn table(&self) -> String {
         format!(
             "\
-{} orders in one call, one for each cassette number, the blank's included: the time of the whole row, on the starts above. Where all
-cassettes differ n of the numbers stand in the store, and with half of them blank n/2 and the blank's.
+{} orders in one call, one for each number that the cassettes of the row are taken from: 1 to 254 and the blank's, and in form 2
+as many from 255 to 4,094. The time of the whole row, on the starts above. Where all cassettes differ n of the numbers stand in the
+store, and with half of them blank n/2 and the blank's.
 
 | m × h | e | n | (a), µs | (b), µs | (a) / (b) |
 |---|--:|--:|--:|--:|--:|
 {}",
-            self.row.len(),
+            self.count, self.rows
+        )
+    }
+}
+
+/// The times of conversions between every two forms that hold the stores of a shape.
+#[derive(Default)]
+struct Conversions {
+    rows: String,
+}
+
+impl Conversions {
+    fn add(&mut self, shape: &Shape, cases: &[Case], rounds: usize) {
+        let holds = |form: &Form| cases.iter().all(|case| form.holds(&case.start));
+        let forms: Vec<Form> = Form::ALL.into_iter().filter(holds).collect();
+        for (&from, &to) in forms
+            .iter()
+            .flat_map(|from| forms.iter().map(move |to| (from, to)))
+        {
+            let [calls, plain] = timing::conversions(cases, from, to, rounds);
+            self.rows += &format!(
+                "| {shape} | {} | {} | {} | {} | {} | {} | {} |\n",
+                shape.e,
+                shape.n(),
+                from as u8,
+                to as u8,
+                microseconds(calls),
+                microseconds(plain),
+                decimals(ratio(calls, plain)),
+            );
+        }
+    }
+
+    fn table(&self) -> String {
+        format!(
+            "\
+Conversions between every two forms that hold the starts above, into {MOST_IMAGE} bytes.
+
+| m × h | e | n | from form | to form | (a), µs | (b), µs | (a) / (b) |
+|---|--:|--:|--:|--:|--:|--:|--:|
+{}",
             self.rows
         )
     }
@@ -218,6 +262,7 @@ struct Stacks {
     reachable: usize,
     plan: usize,
     replay: usize,
+    convert: usize,
     uncover: usize,
 }
 
@@ -225,17 +270,22 @@ impl Stacks {
     fn add(&mut self, case: &Case, orders: &[Order]) {
         let mut orders = orders.to_vec();
         let mut list = vec![0; LENT];
-        let mut out = vec![0; case.start_image.len()];
+        let mut out = vec![0; MOST_IMAGE];
         let mut count = 0;
         let check = stack::used_by(|| _ = calls::check(case));
         let reachable = stack::used_by(|| _ = calls::reachable(case));
         let plan = stack::used_by(|| count = calls::plan(case, &mut list).count as usize);
         let replay = stack::used_by(|| _ = calls::replay(case, &list[..count], &mut out));
+        let image = &case.start_image;
+        let convert = stack::used_by(|| _ = calls::convert(image, 2, &mut out));
         let uncover = stack::used_by(|| _ = calls::uncover(case, &mut orders));
+        let all = [check, reachable, plan, replay, convert, uncover];
+        assert!(all.iter().all(|&used| used <= MOST_STACK), "{all:?} bytes");
         self.check = self.check.max(check);
         self.reachable = self.reachable.max(reachable);
         self.plan = self.plan.max(plan);
         self.replay = self.replay.max(replay);
+        self.convert = self.convert.max(convert);
         self.uncover = self.uncover.max(uncover);
     }
 
@@ -251,9 +301,28 @@ shape above, found by running it on a stack of its own that was painted before.
 | halyard_reachable | {} |
 | halyard_plan | {} |
 | halyard_replay | {} |
+| halyard_convert | {} |
 | halyard_uncover | {} |
 ",
-            self.check, self.reachable, self.plan, self.replay, self.uncover
+            self.check, self.reachable, self.plan, self.replay, self.convert, self.uncover
         )
+    }
+}
+
+#[cfg(test)]
+mod tests {
+    use super::*;
+
+    /// One pair of each shape, as the table has it: a call that used more would end it.
+    #[test]
+    fn no_call_uses_more_stack_than_it_may() {
+        let mut random = Random::new(2);
+        let mut stacks = Stacks::default();
+        for shape in cases::shapes() {
+            let cases = cases::cases(&mut random, &shape, 1);
+            stacks.add(&cases[0], &cases::orders(&mut random, &shape));
+        }
+        assert!(stacks.table().contains("| halyard_convert | "));
+        assert!(stacks.convert > 0);
     }
 }

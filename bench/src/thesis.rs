@@ -6,6 +6,7 @@
 //! stops clearing one row too early (`>` for `>=`), asks `top(p, C)` where `top(p, T)` is due, never sets PosChange to
 //! false, names L as L2, and counts its last loop the wrong way.
 
+use halyard_model::store::NUMBERS;
 use halyard_model::{Store, play};
 
 /// Columns of blocks, with rows from 1.
@@ -13,9 +14,9 @@ pub struct Grid {
     m: usize,
     h: usize,
     top: [usize; 16],
-    slots: [[u8; 16]; 16],
+    slots: [[u16; 16]; 16],
     /// The column of each block.
-    column: [u8; 256],
+    column: [u8; NUMBERS + 1],
 }
 
 impl Grid {
@@ -26,7 +27,7 @@ impl Grid {
             h: store.deepest(),
             top: [0; 16],
             slots: [[0; 16]; 16],
-            column: [0; 256],
+            column: [0; NUMBERS + 1],
         };
         for (x, shaft) in store.shafts.iter().enumerate() {
             grid.top[x] = shaft.len();
@@ -38,11 +39,11 @@ impl Grid {
         grid
     }
 
-    fn at(&self, x: usize, y: usize) -> u8 {
+    fn at(&self, x: usize, y: usize) -> u16 {
         self.slots[x][y - 1]
     }
 
-    fn position(&self, block: u8) -> (usize, usize) {
+    fn position(&self, block: u16) -> (usize, usize) {
         let x = usize::from(self.column[usize::from(block)]);
         let index = self.slots[x].iter().position(|&other| other == block);
         (x, index.expect("the block stands there") + 1)
@@ -250,7 +251,7 @@ mod tests {
             (4, 2, 3),
             (3, 3, 3),
         ] {
-            let cassettes: Vec<u8> = (1..=n).collect();
+            let cassettes: Vec<u16> = (1..=n).collect();
             let stores = every_store(&vec![h; m], &cassettes);
             for start in &stores {
                 stores.iter().for_each(|goal| solves(start, goal));

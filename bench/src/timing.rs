@@ -3,6 +3,7 @@
 use crate::calls::{self, LENT};
 use crate::cases::{Case, Shape};
 use crate::plain;
+use halyard_model::image::{self, Form};
 use halyard_model::play;
 use halyard_model::search::Search;
 use halyard_outside::calls::{Answer, Order};
@@ -131,7 +132,7 @@ impl Way {
 }
 
 /// The longest image, in bytes.
-const MOST_IMAGE: usize = 275;
+pub const MOST_IMAGE: usize = 403;
 
 /// Space lent to the calls, the same each time.
 struct Lent {
@@ -225,6 +226,34 @@ pub fn orders(cases: &[Case], row: &[Order], rounds: usize) -> [Option<f64>; 2] 
             let row = black_box(&mut row[..]);
             let cases = cases.iter().map(black_box).enumerate();
             cases.for_each(|(i, case)| clock.time(i, || way(case, row)));
+        }
+    }
+    clocks.map(Clock::mean_of_medians)
+}
+
+/// A way to write an image in a form.
+type Convert = fn(&[u8], u8, &mut [u8]) -> Answer;
+
+/// The start of each case, in one form, written in another, by the C call and in plain Rust, in rounds that go through both. Nanoseconds for a conversion.
+pub fn conversions(cases: &[Case], from: Form, to: Form, rounds: usize) -> [Option<f64>; 2] {
+    let ways: [Convert; 2] = [calls::convert, plain::convert];
+    let mut clocks = ways.map(|_| Clock::new(cases.len()));
+    let image = |case: &Case| image::write_in(&case.start, from);
+    let images: Vec<Vec<u8>> = cases.iter().map(image).collect();
+    let mut outs = ways.map(|_| vec![0; MOST_IMAGE]);
+    for image in &images {
+        let answers: Vec<_> = (0..2)
+            .map(|by| ways[by](image, to as u8, &mut outs[by]))
+            .collect();
+        assert_eq!(answers[0], answers[1]);
+        assert_eq!(answers[0].number, 0);
+        assert_eq!(outs[0], outs[1]);
+    }
+    for _ in 0..rounds {
+        for ((way, clock), out) in ways.iter().zip(&mut clocks).zip(&mut outs) {
+            let out = black_box(&mut out[..]);
+            let images = images.iter().map(black_box).enumerate();
+            images.for_each(|(i, image)| clock.time(i, || way(image, to as u8, out)));
         }
     }
     clocks.map(Clock::mean_of_medians)

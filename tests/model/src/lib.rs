@@ -1,5 +1,6 @@
 //! Stores, images, lifts, a full search and the reachability rule of document 01, written from that document alone, and of document 02 the orders, by a rule
-//! that the tests hold to the search, what lifts carried, the blanks, and the shafts of unequal depth.
+//! that the tests hold to the search, what lifts carried, the blanks, the shafts of unequal depth, and the cassette
+//! numbers past 255.
 //!
 //! Nothing here is proved. The outside tests compare the proved library with it, and the tool and the benchmark use it.
 

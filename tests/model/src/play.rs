@@ -1,6 +1,6 @@
 //! Single lifts and the replay of a list (document 01, "The store" and "The list"), and what they carried (document 02, 2/13).
 
-use crate::store::Store;
+use crate::store::{NUMBERS, Store};
 
 /// The byte of a lift: the shaft left in the high four bits, the shaft entered in the low four.
 pub fn lift_byte(left: usize, entered: usize) -> u8 {
@@ -29,7 +29,7 @@ pub fn refusal(store: &Store, lift: u8) -> Option<u8> {
 /// What a lift carried, and the row it landed in. Rows count from 1.
 #[derive(Clone, Copy, Debug, PartialEq, Eq)]
 pub struct Carried {
-    pub cassette: u8,
+    pub cassette: u16,
     pub row: usize,
 }
 
@@ -52,7 +52,7 @@ pub struct Replayed {
     pub store: Store,
     pub count: usize,
     pub number: u8,
-    pub carries: [usize; 256],
+    pub carries: Vec<usize>,
 }
 
 /// Does the lifts of a list until one is refused.
@@ -61,7 +61,7 @@ pub fn replay(start: &Store, list: &[u8]) -> Replayed {
         store: start.clone(),
         count: 0,
         number: 0,
-        carries: [0; 256],
+        carries: vec![0; NUMBERS + 1],
     };
     for &byte in list {
         match lift(&mut end.store, byte) {

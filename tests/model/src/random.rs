@@ -1,7 +1,13 @@
 //! Random stores from a seed, the same on every machine.
 
 use crate::rule;
-use crate::store::{BLANK, MOST_CASSETTE, Store};
+use crate::store::{BLANK, MOST_ORDINARY, Store};
+
+/// The greatest number but the blank's that every form holds.
+pub const MOST_IN_A_BYTE: u16 = 254;
+
+/// The last number of a byte, those past it, and the greatest.
+const EDGES: [u16; 4] = [MOST_IN_A_BYTE, 255, 256, MOST_ORDINARY];
 
 /// A splitmix64 generator.
 #[derive(Clone)]
@@ -56,25 +62,56 @@ impl Random {
         &items[self.below(items.len())]
     }
 
-    /// `count` different cassettes, in any order. One of them may be a blank.
-    pub fn cassettes(&mut self, count: usize) -> Vec<u8> {
-        assert!(count <= MOST_CASSETTE, "{count} different cassettes");
-        let mut all: Vec<u8> = (1..=BLANK).collect();
-        self.shuffle(&mut all);
+    /// `count` different cassettes, in any order: numbers that every form holds, or any. One of them may be a blank.
+    pub fn cassettes(&mut self, count: usize) -> Vec<u16> {
+        let blank = count > 0 && self.below(3) == 0;
+        self.cassettes_with_blanks(count, blank.into())
+    }
+
+    /// `count` cassettes of which so many are blanks, and no other two are the same, in any order: numbers that every form holds, or any.
+    pub fn cassettes_with_blanks(&mut self, count: usize, blanks: usize) -> Vec<u16> {
+        let others = count - blanks;
+        let bytes = others <= MOST_IN_A_BYTE.into() && self.below(2) == 0;
+        let others = if bytes {
+            self.different(MOST_IN_A_BYTE, others)
+        } else {
+            self.different_past_a_byte(others)
+        };
+        self.with_blanks(others, blanks)
+    }
+
+    /// The same with numbers that every form holds.
+    pub fn byte_cassettes_with_blanks(&mut self, count: usize, blanks: usize) -> Vec<u16> {
+        let others = self.different(MOST_IN_A_BYTE, count - blanks);
+        self.with_blanks(others, blanks)
+    }
+
+    fn with_blanks(&mut self, mut others: Vec<u16>, blanks: usize) -> Vec<u16> {
+        others.resize(others.len() + blanks, BLANK);
+        self.shuffle(&mut others);
+        others
+    }
+
+    /// `count` different numbers from 1 to `most`, in any order.
+    fn different(&mut self, most: u16, count: usize) -> Vec<u16> {
+        let mut all: Vec<u16> = (1..=most).collect();
+        assert!(count <= all.len(), "{count} different cassettes");
+        for i in 0..count {
+            all.swap(i, self.from_to(i, usize::from(most) - 1));
+        }
         all.truncate(count);
         all
     }
 
-    /// `count` cassettes of which so many are blanks, and no other two are the same, in any order.
-    pub fn cassettes_with_blanks(&mut self, count: usize, blanks: usize) -> Vec<u8> {
-        let others = count - blanks;
-        assert!(others < MOST_CASSETTE, "{others} different cassettes");
-        let mut all: Vec<u8> = (1..BLANK).collect();
-        self.shuffle(&mut all);
-        all.truncate(others);
-        all.resize(count, BLANK);
-        self.shuffle(&mut all);
-        all
+    /// `count` different numbers from 1 to 4,094, often with those at the edges among them.
+    fn different_past_a_byte(&mut self, count: usize) -> Vec<u16> {
+        let mut numbers = self.different(MOST_ORDINARY, count);
+        for edge in EDGES {
+            if count > 0 && self.below(2) == 0 && !numbers.contains(&edge) {
+                numbers[self.below(count)] = edge;
+            }
+        }
+        numbers
     }
 
     /// A store of `m` shafts of depth `h` with `n` different cassettes.
@@ -95,7 +132,7 @@ impl Random {
     }
 
     /// These cassettes, each anywhere in shafts of these depths.
-    pub fn in_shafts(&mut self, depths: &[usize], mut cassettes: Vec<u8>) -> Store {
+    pub fn in_shafts(&mut self, depths: &[usize], mut cassettes: Vec<u16>) -> Store {
         self.shuffle(&mut cassettes);
         self.stand(Store::empty_of(depths), &cassettes)
     }
@@ -133,7 +170,7 @@ impl Random {
     }
 
     /// Sets the cassettes on shafts with room: one at a time, or in runs, which leave more shafts full or empty.
-    fn stand(&mut self, mut store: Store, cassettes: &[u8]) -> Store {
+    fn stand(&mut self, mut store: Store, cassettes: &[u16]) -> Store {
         let in_runs = self.below(2) == 1;
         let mut left = cassettes;
         while !left.is_empty() {
@@ -160,7 +197,7 @@ impl Random {
 
     fn same_floor(&mut self, store: &Store) -> Store {
         let mut goal = store.clone();
-        let mut free: Vec<u8> = goal
+        let mut free: Vec<u16> = goal
             .shafts
             .iter_mut()
             .zip(store.floors())
@@ -195,7 +232,7 @@ fn bound_slots(store: &Store) -> Vec<Slot> {
     slots
 }
 
-fn shown(store: &Store, (shaft, row): Slot) -> u8 {
+fn shown(store: &Store, (shaft, row): Slot) -> u16 {
     store.shafts[shaft][row]
 }
 
@@ -216,10 +253,10 @@ mod tests {
         assert_eq!(random.word(), 0x6E78_9E6A_A1B9_65F4);
     }
 
-    /// Cassettes for so many slots: different ones where there are enough, blanks alone, blanks but for a few, or half of them blanks.
-    fn any_cassettes(random: &mut Random, n: usize) -> Vec<u8> {
+    /// Cassettes for so many slots: different ones, blanks alone, blanks but for a few, or half of them blanks.
+    fn any_cassettes(random: &mut Random, n: usize) -> Vec<u16> {
         match random.below(4) {
-            0 if n <= MOST_CASSETTE => random.cassettes(n),
+            0 => random.cassettes(n),
             1 => random.cassettes_with_blanks(n, n),
             2 => random.cassettes_with_blanks(n, n.saturating_sub(3)),
             _ => random.cassettes_with_blanks(n, n.div_ceil(2)),
@@ -304,15 +341,57 @@ mod tests {
         }
     }
 
+    /// The different numbers among cassettes, rising.
+    fn numbers(mut cassettes: Vec<u16>) -> Vec<u16> {
+        cassettes.sort_unstable();
+        cassettes.dedup();
+        cassettes
+    }
+
     #[test]
     fn as_many_blanks_as_asked_for() {
         let mut random = Random::new(3);
-        for (n, blanks) in [(0, 0), (9, 0), (9, 4), (9, 9), (256, 2), (256, 256)] {
-            let store = random.store_with_blanks(16, 16, n, blanks);
-            assert_eq!((store.n(), store.blanks()), (n, blanks));
-            let mut numbers = store.sorted();
-            numbers.dedup();
-            assert_eq!(numbers.len(), n - blanks + blanks.min(1));
+        for (n, blanks) in [
+            (0, 0),
+            (9, 0),
+            (9, 4),
+            (9, 9),
+            (256, 0),
+            (256, 2),
+            (256, 256),
+        ] {
+            for _ in 0..20 {
+                let store = random.store_with_blanks(16, 16, n, blanks);
+                assert_eq!((store.n(), store.blanks()), (n, blanks));
+                let numbers = numbers(store.cassettes());
+                assert_eq!(numbers.len(), n - blanks + blanks.min(1));
+            }
         }
+        let bytes = random.byte_cassettes_with_blanks(256, 2);
+        assert_eq!(
+            numbers(bytes),
+            [&Vec::from_iter(1..=254)[..], &[BLANK]].concat()
+        );
+    }
+
+    /// Numbers that every form holds about as often as others, a blank now and then, and each number at the edges often.
+    #[test]
+    fn numbers_of_a_byte_and_past_it() {
+        let mut random = Random::new(8);
+        let (mut bytes, mut blank, mut edges) = (0, 0, [0; 4]);
+        for _ in 0..2_000 {
+            let cassettes = random.cassettes(20);
+            assert_eq!(numbers(cassettes.clone()).len(), 20);
+            assert!(cassettes.iter().all(|it| (1..=BLANK).contains(it)));
+            let in_a_byte = |&it: &u16| it <= MOST_IN_A_BYTE || it == BLANK;
+            bytes += usize::from(cassettes.iter().all(in_a_byte));
+            blank += usize::from(cassettes.contains(&BLANK));
+            for (edge, met) in EDGES.iter().zip(&mut edges) {
+                *met += usize::from(cassettes.contains(edge));
+            }
+        }
+        assert!((800..1_200).contains(&bytes), "{bytes} times");
+        assert!((500..850).contains(&blank), "{blank} times");
+        assert!(edges.iter().all(|&met| met > 300), "{edges:?}");
     }
 }

@@ -13,7 +13,7 @@ pub fn reachable(start: &Store, goal: &Store) -> bool {
 }
 
 /// Shaft 0 upward, then shaft 1 downward.
-pub fn two_shaft_reading(store: &Store) -> Vec<u8> {
+pub fn two_shaft_reading(store: &Store) -> Vec<u16> {
     let [up, down] = &store.shafts[..] else {
         panic!("a reading of {} shafts", store.m());
     };
@@ -21,7 +21,7 @@ pub fn two_shaft_reading(store: &Store) -> Vec<u8> {
 }
 
 /// The floors, which never change.
-fn fixed_rows(store: &Store) -> Vec<&[u8]> {
+fn fixed_rows(store: &Store) -> Vec<&[u16]> {
     let shafts = store.shafts.iter().zip(store.floors());
     shafts.map(|(shaft, rows)| &shaft[..rows]).collect()
 }

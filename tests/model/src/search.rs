@@ -1,11 +1,11 @@
 //! A full search, breadth first, over every store that lifts can reach.
 
-use crate::{image, play, store::Store};
+use crate::{play, store::Store};
 use std::collections::{HashMap, VecDeque};
 
-/// The stores found from a start, each by its image, with the lift that first reached it and the store that lift left.
+/// The stores found from a start, each with the lift that first reached it and the store that lift left.
 pub struct Search {
-    found: HashMap<Vec<u8>, usize>,
+    found: HashMap<Store, usize>,
     steps: Vec<Step>,
     ended: bool,
 }
@@ -23,22 +23,19 @@ impl Search {
 
     /// Searches until the goal is found, no store is left, or more than `most` have been found.
     pub fn towards(start: &Store, goal: &Store, most: usize) -> Search {
-        Search::run(start, Some(image::write(goal)), most)
+        Search::run(start, Some(goal), most)
     }
 
-    fn run(start: &Store, goal: Option<Vec<u8>>, most: usize) -> Search {
+    fn run(start: &Store, goal: Option<&Store>, most: usize) -> Search {
         let mut search = Search {
-            found: HashMap::from([(image::write(start), 0)]),
+            found: HashMap::from([(start.clone(), 0)]),
             steps: vec![Step { from: 0, lift: 0 }],
             ended: true,
         };
         let mut waiting = VecDeque::from([start.clone()]);
         let mut from = 0;
         while let Some(store) = waiting.pop_front() {
-            if goal
-                .as_ref()
-                .is_some_and(|goal| search.found.contains_key(goal))
-            {
+            if goal.is_some_and(|goal| search.reaches(goal)) {
                 return search;
             }
             if search.count() > most {
@@ -57,11 +54,10 @@ impl Search {
     fn add(&mut self, store: &Store, from: usize, lift: u8) -> Option<Store> {
         let mut next = store.clone();
         play::lift(&mut next, lift).expect("a legal lift");
-        let image = image::write(&next);
-        if self.found.contains_key(&image) {
+        if self.found.contains_key(&next) {
             return None;
         }
-        self.found.insert(image, self.count());
+        self.found.insert(next.clone(), self.count());
         self.steps.push(Step { from, lift });
         Some(next)
     }
@@ -78,17 +74,17 @@ impl Search {
 
     /// A store was found.
     pub fn reaches(&self, goal: &Store) -> bool {
-        self.found.contains_key(&image::write(goal))
+        self.found.contains_key(goal)
     }
 
-    /// The images of the stores found.
-    pub fn images(&self) -> impl Iterator<Item = &Vec<u8>> {
+    /// The stores found.
+    pub fn stores(&self) -> impl Iterator<Item = &Store> {
         self.found.keys()
     }
 
     /// A shortest list from the start to a store that was found.
     pub fn list_to(&self, goal: &Store) -> Option<Vec<u8>> {
-        let mut at = *self.found.get(&image::write(goal))?;
+        let mut at = *self.found.get(goal)?;
         let mut list = Vec::new();
         while at != 0 {
             list.push(self.steps[at].lift);
@@ -100,14 +96,14 @@ impl Search {
 }
 
 /// Every store of shafts of these depths with these cassettes, each once, also where a number stands more than once among them.
-pub fn every_store(depths: &[usize], cassettes: &[u8]) -> Vec<Store> {
+pub fn every_store(depths: &[usize], cassettes: &[u16]) -> Vec<Store> {
     let mut stores = Vec::new();
     extend_every(&Store::empty_of(depths), 0, cassettes, &mut stores);
     stores
 }
 
 /// Adds to `stores` each way to place the cassettes left in the shafts from `shaft` upward.
-fn extend_every(store: &Store, shaft: usize, left: &[u8], stores: &mut Vec<Store>) {
+fn extend_every(store: &Store, shaft: usize, left: &[u16], stores: &mut Vec<Store>) {
     if shaft == store.m() {
         if left.is_empty() {
             stores.push(store.clone());
@@ -138,11 +134,11 @@ pub struct Lifts<'a> {
 impl<'a> Lifts<'a> {
     /// Of stores among which each is that a lift leads to.
     pub fn between(stores: &'a [Store]) -> Lifts<'a> {
-        let places: HashMap<_, _> = stores.iter().map(image::write).zip(0..).collect();
+        let places: HashMap<_, _> = stores.iter().zip(0..).collect();
         let after = |store: &Store, lift| {
             let mut next = store.clone();
             play::lift(&mut next, lift).expect("a legal lift");
-            places[&image::write(&next)]
+            places[&next]
         };
         let lifts = |store| play::legal_lifts(store).into_iter();
         let next = stores
@@ -217,10 +213,8 @@ mod tests {
         for depths in [[2; 3], [3, 1, 2]] {
             for cassettes in [[1, 2, 3, 4], [BLANK, 1, BLANK, 2]] {
                 let stores = every_store(&depths, &cassettes);
-                let mut images: Vec<_> = stores.iter().map(image::write).collect();
-                images.sort();
-                images.dedup();
-                assert_eq!(images.len(), stores.len());
+                let different: HashSet<_> = stores.iter().collect();
+                assert_eq!(different.len(), stores.len());
             }
         }
     }
@@ -228,17 +222,17 @@ mod tests {
     /// Stores with blanks are those in which as many different cassettes stand, all but the first two painted over.
     #[test]
     fn stores_with_blanks_are_stores_painted_over() {
-        let paint = |cassette: &u8| if *cassette > 2 { BLANK } else { *cassette };
+        let paint = |cassette: &u16| if *cassette > 2 { BLANK } else { *cassette };
         let painted = every_store(&[2; 3], &[1, 2, 3, 4, 5])
             .into_iter()
             .map(|mut store| {
                 let slots = store.shafts.iter_mut().flatten();
                 slots.for_each(|slot| *slot = paint(slot));
-                image::write(&store)
+                store
             });
         let painted: HashSet<_> = painted.collect();
         let stores = every_store(&[2; 3], &[1, 2, BLANK, BLANK, BLANK]);
-        assert_eq!(painted, stores.iter().map(image::write).collect());
+        assert_eq!(painted, stores.into_iter().collect());
     }
 
     #[test]

@@ -4,18 +4,20 @@
 pub const MOST_SHAFTS: usize = 16;
 /// The greatest depth.
 pub const MOST_DEPTH: usize = 16;
-/// The cassette number of a blank, the only one that may stand more than once (document 02, 5/13).
-pub const BLANK: u8 = 255;
-/// The greatest cassette number, which is the blank's.
-pub const MOST_CASSETTE: usize = BLANK as usize;
+/// The cassette number of a blank, the only one that may stand more than once (document 02, 5/13 and 8/13).
+pub const BLANK: u16 = 4095;
+/// The greatest cassette number but the blank's.
+pub const MOST_ORDINARY: u16 = BLANK - 1;
+/// How many different cassette numbers there are, the blank's included.
+pub const NUMBERS: usize = BLANK as usize;
 /// The most cassettes a store has: one in every slot.
 pub const MOST_CASSETTES: usize = MOST_SHAFTS * MOST_DEPTH;
 
 /// Shafts, each with a depth of its own (document 02, 7/13) and its cassettes from row 1 upward.
-#[derive(Clone, Debug, PartialEq, Eq)]
+#[derive(Clone, Debug, PartialEq, Eq, Hash)]
 pub struct Store {
     pub depths: Vec<usize>,
-    pub shafts: Vec<Vec<u8>>,
+    pub shafts: Vec<Vec<u16>>,
 }
 
 impl Store {
@@ -33,7 +35,7 @@ impl Store {
     }
 
     /// Shafts of depth `h` with these cassettes.
-    pub fn of_depth(h: usize, shafts: Vec<Vec<u8>>) -> Store {
+    pub fn of_depth(h: usize, shafts: Vec<Vec<u16>>) -> Store {
         Store {
             depths: vec![h; shafts.len()],
             shafts,
@@ -77,12 +79,12 @@ impl Store {
     }
 
     /// All cassettes, shaft by shaft from row 1.
-    pub fn cassettes(&self) -> Vec<u8> {
+    pub fn cassettes(&self) -> Vec<u16> {
         self.shafts.concat()
     }
 
     /// All cassettes, rising.
-    pub fn sorted(&self) -> Vec<u8> {
+    pub fn sorted(&self) -> Vec<u16> {
         let mut all = self.cassettes();
         all.sort_unstable();
         all

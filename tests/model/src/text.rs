@@ -3,7 +3,7 @@
 //! Lists as text such as the program `plan` prints.
 
 use crate::play;
-use crate::store::{BLANK, MOST_CASSETTE, MOST_DEPTH, MOST_SHAFTS, Store};
+use crate::store::{BLANK, MOST_DEPTH, MOST_SHAFTS, NUMBERS, Store};
 
 /// What a blank is called.
 pub const BLANK_WORD: &str = "b";
@@ -29,13 +29,13 @@ fn write_depths(store: &Store) -> String {
     }
 }
 
-fn write_shaft(shaft: &[u8]) -> String {
+fn write_shaft(shaft: &[u16]) -> String {
     let cassettes: Vec<String> = shaft.iter().map(|&it| write_cassette(it)).collect();
     format!("[{}]", cassettes.join(" "))
 }
 
 /// A cassette's number, or the word for a blank.
-pub fn write_cassette(cassette: u8) -> String {
+pub fn write_cassette(cassette: u16) -> String {
     match cassette {
         BLANK => BLANK_WORD.into(),
         _ => cassette.to_string(),
@@ -71,7 +71,7 @@ fn read_depths(text: &str, m: usize) -> Result<Vec<usize>, String> {
     }
 }
 
-fn read_shafts(mut text: &str) -> Result<Vec<Vec<u8>>, String> {
+fn read_shafts(mut text: &str) -> Result<Vec<Vec<u16>>, String> {
     let mut shafts = Vec::new();
     loop {
         text = text.trim_start();
@@ -87,15 +87,15 @@ fn read_shafts(mut text: &str) -> Result<Vec<Vec<u8>>, String> {
     }
 }
 
-fn read_shaft(text: &str) -> Result<Vec<u8>, String> {
+fn read_shaft(text: &str) -> Result<Vec<u16>, String> {
     text.split_whitespace().map(read_cassette).collect()
 }
 
 /// A cassette's number, also where it is the blank's, or the word for a blank.
-fn read_cassette(word: &str) -> Result<u8, String> {
+fn read_cassette(word: &str) -> Result<u16, String> {
     match word {
         BLANK_WORD => Ok(BLANK),
-        _ => Ok(number(word, 1, MOST_CASSETTE)? as u8),
+        _ => Ok(number(word, 1, NUMBERS)? as u16),
     }
 }
 
@@ -118,7 +118,7 @@ fn check(store: &Store) -> Result<(), String> {
         let depth = store.depths[shaft];
         return Err(format!("shaft {shaft} is higher than its depth, {depth}"));
     }
-    let twice = |two: &&[u8]| two[0] == two[1] && two[0] != BLANK;
+    let twice = |two: &&[u16]| two[0] == two[1] && two[0] != BLANK;
     match store.sorted().windows(2).find(twice) {
         Some(two) => Err(format!("cassette {} stands twice", two[0])),
         None => Ok(()),
@@ -169,6 +169,7 @@ mod tests {
             "2x3: [b 1 b] [b b]",
             "3x3,2,2: [1 2 3] [4] [5]",
             "2x1,16: [] [1 2 3]",
+            "2x3: [254 255 256] [4094 b]",
         ] {
             assert_eq!(write(&read(text).unwrap()), text);
         }
@@ -247,7 +248,9 @@ mod tests {
             "2x2: [bb] []",
             "2x2: [B] []",
             "2x2: [0] []",
-            "2x2: [256] []",
+            "2x2: [4096] []",
+            "2x2: [255] [255]",
+            "2x2: [4094] [4094]",
             "2x2: [1 []",
             "2x2: [1] [2] 3",
         ] {

@@ -27,7 +27,7 @@ pub fn places(store: &Store, cassette: u16) -> impl Iterator<Item = Place> {
     let shafts = store.shafts.iter().enumerate();
     shafts.flat_map(move |(at, shaft)| {
         let rows = (1..).zip(shaft);
-        rows.filter(move |&(_, &it)| u16::from(it) == cassette)
+        rows.filter(move |&(_, &it)| it == cassette)
             .map(move |(row, _)| (at, row))
     })
 }
@@ -39,16 +39,14 @@ pub fn above(store: &Store, (shaft, row): Place) -> usize {
 
 /// The store shows the cassette on top of some shaft.
 pub fn uncovered(store: &Store, cassette: u16) -> bool {
-    store
-        .shafts
-        .iter()
-        .any(|shaft| shaft.last().is_some_and(|&it| u16::from(it) == cassette))
+    let mut shafts = store.shafts.iter();
+    shafts.any(|shaft| shaft.last() == Some(&cassette))
 }
 
 #[cfg(test)]
 mod tests {
     use super::*;
-    use crate::store::{BLANK, MOST_CASSETTE};
+    use crate::store::{BLANK, MOST_ORDINARY};
     use crate::text;
 
     fn answers(store: &str, cassettes: &[u16]) -> Vec<Result<usize, u8>> {
@@ -57,7 +55,7 @@ mod tests {
     }
 
     fn blank(store: &str) -> Result<usize, u8> {
-        uncover(&text::read(store).unwrap(), BLANK.into())
+        uncover(&text::read(store).unwrap(), BLANK)
     }
 
     #[test]
@@ -103,8 +101,8 @@ mod tests {
         assert_eq!(blank("3x4: [b 1] [2 b 3 4] [5 6 7 8]"), Ok(2));
         assert_eq!(blank("3x4: [2 b 3 4] [b 1] [5 6 7 8]"), Ok(2));
         let store = text::read("3x4: [b 1] [2 b 3 4] [5 6 b 8]").unwrap();
-        assert_eq!(nearest(&store, BLANK.into()), Some((2, 3)));
-        let all: Vec<_> = places(&store, BLANK.into()).collect();
+        assert_eq!(nearest(&store, BLANK), Some((2, 3)));
+        let all: Vec<_> = places(&store, BLANK).collect();
         assert_eq!(all, [(0, 1), (1, 2), (2, 3)]);
     }
 
@@ -118,8 +116,17 @@ mod tests {
 
     #[test]
     fn numbers_that_are_not_there() {
-        let past = MOST_CASSETTE as u16 + 1;
-        let numbers = [0, 4, BLANK.into(), past, past + 1, 65_535];
-        assert_eq!(answers("2x2: [1 2] [3]", &numbers), [Err(16); 6]);
+        let numbers = [0, 4, 255, MOST_ORDINARY, BLANK, BLANK + 1, 65_535];
+        assert_eq!(answers("2x2: [1 2] [3]", &numbers), [Err(16); 7]);
+    }
+
+    /// Numbers past a byte, and the blank's, which is no other number's low bits.
+    #[test]
+    fn numbers_past_a_byte() {
+        let store = "3x4: [255 256 1] [4094 b 511] []";
+        let numbers = [255, 256, 1, 4094, BLANK, 511, 254, 257, 0];
+        let [one, two, top, gone] = [Ok(1), Ok(2), Ok(0), Err(16)];
+        let wanted = [two, one, top, two, one, top, gone, gone, gone];
+        assert_eq!(answers(store, &numbers), wanted);
     }
 }

@@ -1,7 +1,10 @@
-//! The five C calls, each on guarded bytes and orders.
+//! The six C calls, each on guarded bytes and orders.
 
 use crate::guarded::{Guarded, Noise};
-use halyard_model::{Random, image};
+use halyard_model::Random;
+use halyard_model::image::{self, Form};
+use halyard_model::random::MOST_IN_A_BYTE;
+use halyard_model::store::BLANK;
 
 pub mod c {
     //! As include/halyardgage.h declares them.
@@ -36,6 +39,13 @@ pub mod c {
             image_len: usize,
             list: *const u8,
             list_len: usize,
+            out: *mut u8,
+            out_len: usize,
+        ) -> u64;
+        pub fn halyard_convert(
+            image: *const u8,
+            image_len: usize,
+            form: u8,
             out: *mut u8,
             out_len: usize,
         ) -> u64;
@@ -97,27 +107,33 @@ pub struct Written<T = u8> {
     pub space: Guarded<T>,
 }
 
-/// The first field of an image.
-fn form(image: &[u8]) -> Option<u8> {
-    image.first().map(|byte| byte >> 4)
-}
+/// How many answers had each number.
+type Numbers = [u64; 256];
 
-/// The image of a store of unequal depths, which only form 1 has.
-fn unequal(image: &[u8]) -> bool {
-    form(image) == Some(1) && image::read(image).is_ok_and(|store| !store.equal_depths())
+/// The same for each form, and for each two forms.
+type ByForm = [Numbers; 3];
+type ByForms = [ByForm; 3];
+
+const NONE: Numbers = [0; 256];
+
+/// A cassette that only form 2 holds.
+fn past_a_byte(cassette: u16) -> bool {
+    (MOST_IN_A_BYTE + 1..BLANK).contains(&cassette)
 }
 
 /// Makes the calls, with noise from a generator of its own, and sees after each that what it was given to read is unchanged.
 pub struct Caller {
     random: Random,
     guard: usize,
-    answers: [u64; 256],
-    unequal: [u64; 256],
-    mixed: [u64; 256],
-    rewritten: u64,
-    shortened: u64,
-    orders: [u64; 256],
-    lifts: [u64; 256],
+    answers: Numbers,
+    unequal: Numbers,
+    past_a_byte: Numbers,
+    forms: ByForm,
+    pairs: ByForms,
+    conversions: ByForms,
+    orders: Numbers,
+    orders_past_a_byte: Numbers,
+    lifts: Numbers,
 }
 
 impl Caller {
@@ -125,13 +141,15 @@ impl Caller {
         Caller {
             random: Random::new(seed),
             guard,
-            answers: [0; 256],
-            unequal: [0; 256],
-            mixed: [0; 256],
-            rewritten: 0,
-            shortened: 0,
-            orders: [0; 256],
-            lifts: [0; 256],
+            answers: NONE,
+            unequal: NONE,
+            past_a_byte: NONE,
+            forms: [NONE; 3],
+            pairs: [[NONE; 3]; 3],
+            conversions: [[NONE; 3]; 3],
+            orders: NONE,
+            orders_past_a_byte: NONE,
+            lifts: NONE,
         }
     }
 
@@ -145,24 +163,34 @@ impl Caller {
         self.unequal[usize::from(number)]
     }
 
-    /// How many answers had a number where of start and goal one was in form 0 and one in form 1.
-    pub fn mixed_with(&self, number: u8) -> u64 {
-        self.mixed[usize::from(number)]
+    /// How many answers had a number where the image, or that of the start, has a cassette that only form 2 holds.
+    pub fn past_a_byte_with(&self, number: u8) -> u64 {
+        self.past_a_byte[usize::from(number)]
     }
 
-    /// How many replays wrote an image in another form than the one given.
-    pub fn rewritten(&self) -> u64 {
-        self.rewritten
+    /// How many answers had a number where the image, or that of the start, names a form.
+    pub fn in_form_with(&self, form: Form, number: u8) -> u64 {
+        self.forms[form as usize][usize::from(number)]
     }
 
-    /// How many of those were lent less than the image given has.
-    pub fn shortened(&self) -> u64 {
-        self.shortened
+    /// How many answers had a number where start and goal name these forms.
+    pub fn pairs_with(&self, start: Form, goal: Form, number: u8) -> u64 {
+        self.pairs[start as usize][goal as usize][usize::from(number)]
+    }
+
+    /// How many conversions from a form to a form were answered with a number.
+    pub fn conversions_with(&self, from: Form, to: Form, number: u8) -> u64 {
+        self.conversions[from as usize][to as usize][usize::from(number)]
     }
 
     /// How many orders were answered with a number.
     pub fn orders_with(&self, number: u8) -> u64 {
         self.orders[usize::from(number)]
+    }
+
+    /// How many orders for cassettes that only form 2 holds were answered with a number.
+    pub fn orders_past_a_byte_with(&self, number: u8) -> u64 {
+        self.orders_past_a_byte[usize::from(number)]
     }
 
     /// How many orders were answered with so many lifts, and number 0.
@@ -172,28 +200,25 @@ impl Caller {
 
     fn answer(&mut self, bits: u64, image: &Guarded) -> Answer {
         let answer = Answer::from_bits(bits);
-        self.answers[usize::from(answer.number)] += 1;
-        if unequal(image.content()) {
-            self.unequal[usize::from(answer.number)] += 1;
+        let number = usize::from(answer.number);
+        self.answers[number] += 1;
+        if let Ok(form) = image::form_of(image.content()) {
+            self.forms[form as usize][number] += 1;
+        }
+        if let Ok(store) = image::read(image.content()) {
+            self.unequal[number] += u64::from(!store.equal_depths());
+            self.past_a_byte[number] += u64::from(!Form::Depths.holds(&store));
         }
         answer
     }
 
     fn answer_on_two(&mut self, bits: u64, start: &Guarded, goal: &Guarded) -> Answer {
         let answer = self.answer(bits, start);
-        let forms = [form(start.content()), form(goal.content())];
-        if forms == [Some(0), Some(1)] || forms == [Some(1), Some(0)] {
-            self.mixed[usize::from(answer.number)] += 1;
+        let forms = [start, goal].map(|image| image::form_of(image.content()));
+        if let [Ok(start), Ok(goal)] = forms {
+            self.pairs[start as usize][goal as usize][usize::from(answer.number)] += 1;
         }
         answer
-    }
-
-    /// Counts a replay that has written an image.
-    fn count_written(&mut self, image: &Guarded, out: &Guarded) {
-        if form(image.content()) != form(out.content()) {
-            self.rewritten += 1;
-            self.shortened += u64::from(out.size() < image.size());
-        }
     }
 
     fn holding(&mut self, content: &[u8]) -> Guarded {
@@ -264,9 +289,29 @@ impl Caller {
         };
         assert!(image.kept_but(0), "replay wrote to its image or beside it");
         assert!(list.kept_but(0), "replay wrote to its list or beside it");
+        Written {
+            answer: self.answer(bits, &image),
+            space: out,
+        }
+    }
+
+    pub fn convert(&mut self, image: &[u8], form: u8, out_len: usize) -> Written {
+        let mut image = self.holding(image);
+        let mut out = self.space(out_len);
+        // SAFETY: each pointer has as many bytes as are named, and the two do not overlap.
+        let bits = unsafe {
+            c::halyard_convert(
+                image.pointer(),
+                image.size(),
+                form,
+                out.pointer(),
+                out.size(),
+            )
+        };
+        assert!(image.kept_but(0), "convert wrote to its image or beside it");
         let answer = self.answer(bits, &image);
-        if matches!(answer.number, 0 | 11 | 13 | 14) {
-            self.count_written(&image, &out);
+        if let (Ok(from), Ok(to)) = (image::form_of(image.content()), Form::named(form)) {
+            self.conversions[from as usize][to as usize][usize::from(answer.number)] += 1;
         }
         Written { answer, space: out }
     }
@@ -297,6 +342,9 @@ impl Caller {
     fn count(&mut self, orders: &[Order]) {
         for order in orders {
             self.orders[usize::from(order.number)] += 1;
+            if past_a_byte(order.cassette) {
+                self.orders_past_a_byte[usize::from(order.number)] += 1;
+            }
             if order.number == 0 {
                 self.lifts[usize::from(order.lifts)] += 1;
             }

@@ -1,6 +1,6 @@
 //! One comparison of each call with what documents 01 and 02 have it answer and write.
 
-use crate::calls::{Answer, Caller, Order};
+use crate::calls::{Answer, Caller, Order, Written};
 use crate::expected;
 use halyard_model::{Store, image, play, text};
 
@@ -46,12 +46,10 @@ pub fn plan(caller: &mut Caller, start: &[u8], goal: &[u8], list_len: usize, num
     assert!(list.kept_but(count), "bytes past the list: {}", about());
 }
 
-/// Compares plans into no space, a byte less than a plan from this start asks for, and as much.
-pub fn plans(caller: &mut Caller, start: &Store, goal: &Store, number: u8) {
-    let (from, to) = (image::write(start), image::write(goal));
-    let need = start.list_space();
+/// Compares plans into no space, a byte less than is needed, and as much.
+pub fn plans(caller: &mut Caller, start: &[u8], goal: &[u8], need: usize, number: u8) {
     for list_len in [0, need.saturating_sub(1), need] {
-        plan(caller, &from, &to, list_len, number);
+        plan(caller, start, goal, list_len, number);
     }
 }
 
@@ -67,9 +65,22 @@ pub fn replay(caller: &mut Caller, image: &[u8], list: &[u8], out_len: usize) {
     let written = caller.replay(image, list, out_len);
     let about = || format!("replay of {list:x?} into {out_len} bytes, {}", show(image));
     let (answer, bytes) = expected::replay(image, list, out_len);
+    wrote(&written, answer, &bytes, &about);
+}
+
+/// Compares a conversion.
+pub fn convert(caller: &mut Caller, image: &[u8], form: u8, out_len: usize) {
+    let written = caller.convert(image, form, out_len);
+    let about = || format!("to form {form} in {out_len} bytes, {}", show(image));
+    let (answer, bytes) = expected::convert(image, form, out_len);
+    wrote(&written, answer, &bytes, &about);
+}
+
+/// A call gave this answer, wrote these bytes, and nothing past them.
+fn wrote(written: &Written, answer: Answer, bytes: &[u8], about: &dyn Fn() -> String) {
     assert_eq!(written.answer, answer, "{}", about());
     let out = &written.space;
-    assert_eq!(out.content()[..bytes.len()], bytes, "{}", about());
+    assert_eq!(out.content()[..bytes.len()], *bytes, "{}", about());
     assert!(
         out.kept_but(bytes.len()),
         "bytes past the image: {}",
@@ -96,10 +107,10 @@ pub fn row_is(caller: &mut Caller, image: &[u8], orders: &[Order], answer: Answe
     );
 }
 
-/// A store's image, or the bytes that are none, for a person.
+/// A store's image and its form, or the bytes that are none, for a person.
 fn show(bytes: &[u8]) -> String {
     match image::read(bytes) {
-        Ok(store) => text::write(&store),
+        Ok(store) => format!("{} in form {}", text::write(&store), bytes[0] >> 4),
         Err(number) => format!("{bytes:02x?}, which is {number}"),
     }
 }

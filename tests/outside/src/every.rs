@@ -1,38 +1,48 @@
 //! Every store of a frame with some cassettes, against a full search.
 
 use crate::calls::{Answer, Caller, Order};
-use crate::{checks, expected};
+use crate::{checks, expected, inputs};
 use halyard_model::search::{Lifts, Search, every_store};
-use halyard_model::store::{BLANK, MOST_CASSETTE};
-use halyard_model::{Random, Store, image, rule, uncover};
+use halyard_model::store::BLANK;
+use halyard_model::{Random, Store, rule, uncover};
 use std::collections::HashMap;
 
-/// Every pair of stores with these cassettes: the calls, and the rule that the other tests go by, agree with the search. Gives how many
-/// stores there are.
-pub fn pairs(caller: &mut Caller, depths: &[usize], cassettes: &[u8]) -> usize {
+/// Every pair of stores with these cassettes, as start and as goal each in some form that holds it: the calls, and the rule that the other tests go by, agree
+/// with the search. Gives how many stores there are.
+pub fn pairs(
+    caller: &mut Caller,
+    random: &mut Random,
+    depths: &[usize],
+    cassettes: &[u16],
+) -> usize {
     let stores = every_store(depths, cassettes);
     let classes = classes(&stores);
     assert_eq!(classes.len(), stores.len(), "the search found other stores");
-    let images: Vec<_> = stores.iter().map(image::write).collect();
-    for (start, from) in stores.iter().zip(&images) {
-        for (goal, to) in stores.iter().zip(&images) {
-            let yes = classes[from] == classes[to];
+    let classes: Vec<usize> = stores.iter().map(|store| classes[store]).collect();
+    let mut images = || -> Vec<Vec<u8>> {
+        let image = |store| inputs::image(random, store);
+        stores.iter().map(image).collect()
+    };
+    let (from, to) = (images(), images());
+    for (i, start) in stores.iter().enumerate() {
+        for (j, goal) in stores.iter().enumerate() {
+            let yes = classes[i] == classes[j];
             assert_eq!(rule::reachable(start, goal), yes, "{start:?} {goal:?}");
             let number = if yes { 0 } else { 15 };
-            checks::reachable(caller, from, to, number);
-            checks::plans(caller, start, goal, number);
+            checks::reachable(caller, &from[i], &to[j], number);
+            checks::plans(caller, &from[i], &to[j], start.list_space(), number);
         }
     }
     stores.len()
 }
 
-/// For each image, which of the sets of stores that lead to each other it is in.
-fn classes(stores: &[Store]) -> HashMap<Vec<u8>, usize> {
+/// For each store, which of the sets of stores that lead to each other it is in.
+fn classes(stores: &[Store]) -> HashMap<Store, usize> {
     let mut classes = HashMap::new();
     for (number, store) in stores.iter().enumerate() {
-        if !classes.contains_key(&image::write(store)) {
+        if !classes.contains_key(store) {
             let search = Search::all(store, usize::MAX);
-            classes.extend(search.images().map(|image| (image.clone(), number)));
+            classes.extend(search.stores().map(|store| (store.clone(), number)));
         }
     }
     classes
@@ -43,22 +53,26 @@ pub fn counts_of_blanks(random: &mut Random, n: usize) -> impl Iterator<Item = u
     [random.below(2).min(n)].into_iter().chain(2..=n)
 }
 
-/// Names that no slot shows: 0, the numbers just past what a slot can hold, the greatest, the first that is absent, and the last.
-fn absent(cassettes: &[u8]) -> Vec<u16> {
-    let past = MOST_CASSETTE as u16 + 1;
-    let mut free = (1..=BLANK).filter(|cassette| !cassettes.contains(cassette));
-    let mut absent = vec![0, past, past + 1, 65_535];
-    absent.extend(free.next().map(u16::from));
-    absent.extend(free.next_back().map(u16::from));
+/// Names that no slot shows: 0, the numbers just past what a slot can hold, the greatest, the first that is absent, the last, those next to 255, and such as
+/// differ from the first cassette in one bit.
+fn absent(cassettes: &[u16]) -> Vec<u16> {
+    let mut absent = vec![0, BLANK + 1, BLANK + 2, 65_535];
+    let free = |number: &u16| !cassettes.contains(number);
+    absent.extend((1..=BLANK).find(free));
+    absent.extend((1..=BLANK).rfind(free));
+    absent.extend([254, 255, 256].into_iter().filter(free));
+    if let Some(first) = cassettes.first() {
+        absent.extend((0..16).map(|bit| first ^ (1 << bit)).filter(free));
+    }
     absent
 }
 
 /// Every store with these cassettes: a row that names each of them, each twice, and some that are absent, answered as the search has it. The rule that the
 /// other tests go by agrees with the search too.
-pub fn orders(caller: &mut Caller, random: &mut Random, depths: &[usize], cassettes: &[u8]) {
+pub fn orders(caller: &mut Caller, random: &mut Random, depths: &[usize], cassettes: &[u16]) {
     let stores = every_store(depths, cassettes);
     let lifts = Lifts::between(&stores);
-    let mut there: Vec<u16> = cassettes.iter().copied().map(u16::from).collect();
+    let mut there = cassettes.to_vec();
     there.sort_unstable();
     there.dedup();
     let fewest: Vec<Vec<Option<usize>>> = there
@@ -88,11 +102,6 @@ fn compare_row(
         orders.push(order);
         row.push(expected::answered(order, answer));
     }
-    checks::row_is(
-        caller,
-        &image::write(store),
-        &orders,
-        Answer::of(0, 0),
-        &row,
-    );
+    let image = inputs::image(random, store);
+    checks::row_is(caller, &image, &orders, Answer::of(0, 0), &row);
 }

@@ -30,15 +30,26 @@ pub fn reachable(start: &[u8], goal: &[u8]) -> u8 {
     }
 }
 
-/// What a replay answers and writes: nothing where it is refused. 10 goes by the image that it writes, which is as long wherever its lifts lead.
+/// What a replay answers and writes: nothing where it is refused, else the store reached in the form of the image given, which is as long wherever its
+/// lifts lead.
 pub fn replay(image: &[u8], list: &[u8], out_len: usize) -> (Answer, Vec<u8>) {
-    let store = match image::read(image) {
-        Ok(store) if out_len < image::length(&store) => return (Answer::of(10, 0), Vec::new()),
-        Ok(store) => store,
-        Err(number) => return (Answer::of(number, 0), Vec::new()),
+    let (form, store) = match (image::form_of(image), image::read(image)) {
+        (Err(number), _) | (_, Err(number)) => return (Answer::of(number, 0), Vec::new()),
+        (Ok(_), Ok(_)) if out_len < image.len() => return (Answer::of(10, 0), Vec::new()),
+        (Ok(form), Ok(store)) => (form, store),
     };
     let end = play::replay(&store, list);
-    (Answer::of(end.number, end.count), image::write(&end.store))
+    let written = image::write_in(&end.store, form);
+    (Answer::of(end.number, end.count), written)
+}
+
+/// What a conversion answers and writes: nothing where it is refused, for a fault of reading, 1, 18 or 10, in this order.
+pub fn convert(image: &[u8], form: u8, out_len: usize) -> (Answer, Vec<u8>) {
+    match image::convert(image, form) {
+        Err(number) => (Answer::of(number, 0), Vec::new()),
+        Ok(written) if out_len < written.len() => (Answer::of(10, 0), Vec::new()),
+        Ok(written) => (Answer::of(0, written.len()), written),
+    }
 }
 
 /// What a row of orders answers, and the row after it: as it came where the image is refused.

@@ -2,7 +2,8 @@
 
 use crate::calls::Order;
 use halyard_model::image::{self, Field, Form};
-use halyard_model::store::{BLANK, MOST_CASSETTE, MOST_DEPTH, MOST_SHAFTS};
+use halyard_model::random::MOST_IN_A_BYTE;
+use halyard_model::store::{BLANK, MOST_DEPTH, MOST_ORDINARY, MOST_SHAFTS};
 use halyard_model::{Random, Store, play};
 
 /// The most list space a plan can ask for.
@@ -22,7 +23,7 @@ pub fn store(random: &mut Random) -> Store {
 /// blanks.
 pub fn store_of(random: &mut Random, depths: &[usize]) -> Store {
     let n = cassette_count(random, depths);
-    let cassettes = if n <= MOST_CASSETTE && random.below(2) == 0 {
+    let cassettes = if random.below(2) == 0 {
         random.cassettes(n)
     } else {
         let blanks = blank_count(random, n);
@@ -67,25 +68,35 @@ fn cassette_count(random: &mut Random, depths: &[usize]) -> usize {
     slots.saturating_sub(e)
 }
 
-/// Of n cassettes none, one, two, half, all but three, all or any number. There are as many at least as leave the others different.
+/// Of n cassettes none, one, two, half, all but three, all or any number.
 fn blank_count(random: &mut Random, n: usize) -> usize {
-    let least = n.saturating_sub(MOST_CASSETTE - 1);
     let any = random.below(n + 1);
     let blanks = *random.one_of(&[0, 1, 2, n / 2, n.saturating_sub(3), n, any]);
-    blanks.clamp(least, n)
+    blanks.min(n)
 }
 
-/// The image of a store in a form that it has: of equal depths in either.
+/// The image of a store in a form that holds it: the first such form, or any.
 pub fn image(random: &mut Random, store: &Store) -> Vec<u8> {
     let form = any_form(random, store);
     image::write_in(store, form)
 }
 
 fn any_form(random: &mut Random, store: &Store) -> Form {
-    if random.below(2) == 0 {
-        image::form(store)
-    } else {
-        Form::Depths
+    if random.below(3) == 0 {
+        return image::first_form(store);
+    }
+    let mut forms = Form::ALL.to_vec();
+    forms.retain(|form| form.holds(store));
+    *random.one_of(&forms)
+}
+
+/// A form to be named for writing: one there is, one just past them, or any.
+pub fn form_named(random: &mut Random) -> u8 {
+    match random.below(8) {
+        0 => random.byte(),
+        1 => 3,
+        2 => 4,
+        _ => random.below(3) as u8,
     }
 }
 
@@ -134,23 +145,32 @@ fn near_depth(random: &mut Random, depth: usize) -> usize {
     }
 }
 
-/// The start with one cassette more, one less, or one that has changed its number, often from or to the blank's.
+/// The start with one cassette more, one less, or one that has changed its number, often from or to the blank's or in one bit.
 fn other_cassettes(random: &mut Random, start: &Store) -> Store {
     let mut goal = random.reachable_goal(start);
-    let absent: Vec<u8> = (1..BLANK)
-        .filter(|cassette| !start.cassettes().contains(cassette))
-        .collect();
     let at = random.below(goal.m());
-    let popped = random.below(2) == 0 && goal.shafts[at].pop().is_some();
-    if goal.room(at) > 0 && !(popped && random.below(3) == 0) {
-        let blank = absent.is_empty() || random.below(2) == 0;
-        goal.shafts[at].push(if blank {
-            BLANK
-        } else {
-            *random.one_of(&absent)
-        });
+    let popped = match random.below(2) {
+        0 => goal.shafts[at].pop(),
+        _ => None,
+    };
+    if goal.room(at) > 0 && !(popped.is_some() && random.below(3) == 0) {
+        let other = other_number(random, popped);
+        let there = goal.shafts.iter().flatten().any(|&it| it == other);
+        goal.shafts[at].push(if there { BLANK } else { other });
     }
     goal
+}
+
+/// The blank's number, one that differs from a cassette's in one bit, one that every form holds, or any.
+fn other_number(random: &mut Random, cassette: Option<u16>) -> u16 {
+    let near = cassette.map(|it| it ^ (1 << random.below(12)));
+    let near = near.filter(|it| (1..=BLANK).contains(it));
+    match random.below(4) {
+        0 => BLANK,
+        1 => random.from_to(1, MOST_IN_A_BYTE.into()) as u16,
+        2 => random.from_to(1, MOST_ORDINARY.into()) as u16,
+        _ => near.unwrap_or(BLANK),
+    }
 }
 
 /// A lent length: what a plan asks for, a byte less, a little more or less, any, none, or the most.
@@ -167,9 +187,8 @@ pub fn list_len(random: &mut Random, start: &Store) -> usize {
     }
 }
 
-/// A length lent for a written image: as long as the one given or the one written, a little more or less, or any that is short.
-pub fn out_len(random: &mut Random, store: &Store, image: &[u8]) -> usize {
-    let length = *random.one_of(&[image.len(), image::length(store)]);
+/// A length lent for a written image: as long as it is, a little more or less, or any that is short.
+pub fn out_len(random: &mut Random, length: usize) -> usize {
     match random.below(8) {
         0..2 => random.below(length),
         2 => length - 1,
@@ -195,16 +214,21 @@ pub fn damaged(random: &mut Random) -> Vec<u8> {
     bytes
 }
 
-/// One field has any value, or that of a cassette in the image, or, where it is a height, its shaft's depth and one.
+/// One field has any value, or, where it is a cassette, that of another cassette of the image, of one that differs from it in one bit, or 0, or, where it is a
+/// height, its shaft's depth and one.
 fn with_a_field_changed(random: &mut Random, store: &Store, form: Form) -> Vec<u8> {
     let mut fields = image::fields(store, form);
-    let cassettes = store.cassettes();
     let at = random.below(fields.len());
     let Field { width, .. } = fields[at];
-    let heights_before = fields[..at].iter().filter(|field| field.width == 5).count();
-    fields[at].value = match (random.below(4), width) {
-        (0, 8) => usize::from(*random.one_of(&cassettes)),
-        (1, 8) => 0,
+    let of_width = |fields: &[Field], width| -> Vec<usize> {
+        let some = fields.iter().filter(|field| field.width == width);
+        some.map(|field| field.value).collect()
+    };
+    let heights_before = of_width(&fields[..at], 5).len();
+    fields[at].value = match (random.below(5), width) {
+        (0, 8 | 12) => *random.one_of(&of_width(&fields, width)),
+        (1, 8 | 12) => random.one_of(&of_width(&fields, width)) ^ (1 << random.below(width)),
+        (2, 8 | 12) => 0,
         (0, 5) => store.depths[heights_before] + 1,
         _ => random.below(1 << width),
     };
@@ -231,14 +255,14 @@ fn extend(random: &mut Random, bytes: &mut Vec<u8>) {
     bytes.extend(noise.iter().map(|&byte| if zero { 0 } else { byte }));
 }
 
-/// Random bytes, mostly with a form of 0 or 1.
+/// Random bytes, mostly with a form that there is.
 fn random_bytes(random: &mut Random) -> Vec<u8> {
-    let len = random.below(300);
+    let len = random.below(500);
     let mut bytes = random.bytes(len);
     if let Some(first) = bytes.first_mut()
         && random.below(4) > 0
     {
-        *first &= 0x1F;
+        *first = (random.below(3) as u8) << 4 | *first & 15;
     }
     bytes
 }
@@ -287,12 +311,13 @@ pub fn orders(random: &mut Random, store: &Store) -> Vec<Order> {
     for _ in 0..count {
         let any = random.word() as u16;
         names.push(match random.below(8) {
-            0 => *random.one_of(&[0, BLANK.into(), MOST_CASSETTE as u16 + 1, 65_535]),
+            0 => *random.one_of(&[0, 254, 255, 256, MOST_ORDINARY, BLANK, BLANK + 1, 65_535]),
             1 => any,
-            2 => any % (MOST_CASSETTE as u16 + 1),
+            2 => any % (BLANK + 1),
             3 if !names.is_empty() => names[0],
             _ if there.is_empty() => 1,
-            _ => u16::from(*random.one_of(&there)),
+            4 => random.one_of(&there) ^ (1 << random.below(16)),
+            _ => *random.one_of(&there),
         });
     }
     let order = |name| Order::naming(name, random);
@@ -344,23 +369,59 @@ mod tests {
         );
     }
 
-    /// Images in both forms of stores of equal depths.
+    /// Numbers that only form 2 holds in about half of the stores, each number next to 255 and the greatest, and full stores with no blank.
     #[test]
-    fn images_in_either_form() {
+    fn stores_with_numbers_past_a_byte() {
+        let mut random = Random::new(76);
+        let stores: Vec<Store> = (0..4_000).map(|_| store(&mut random)).collect();
+        let past = met(&stores, |it| !Form::Depths.holds(it));
+        assert!((1_600..2_400).contains(&past), "{past} stores");
+        for number in [254, 255, 256, MOST_ORDINARY] {
+            let with = met(&stores, |it| it.cassettes().contains(&number));
+            assert!(with > 400, "{number} in {with} stores");
+        }
+        assert!(met(&stores, |it| it.n() == MOST_CASSETTES && it.blanks() == 0) > 10);
+        assert!(met(&stores, |it| it.equal_depths() && !Form::Depths.holds(it)) > 600);
+    }
+
+    /// Images in each form, of stores that several hold and of such as only the last does.
+    #[test]
+    fn images_in_each_form() {
         let mut random = Random::new(74);
-        let [mut own, mut other] = [0, 0];
+        let mut met = [[0; 3]; 3];
         for _ in 0..4_000 {
             let store = store(&mut random);
             let image = image(&mut random, &store);
             assert_eq!(image::read(&image).as_ref(), Ok(&store));
-            if image == image::write(&store) {
-                own += 1;
-            } else {
-                assert!(store.equal_depths());
-                other += 1;
+            let form = image::form_of(&image).unwrap();
+            met[image::first_form(&store) as usize][form as usize] += 1;
+        }
+        let [[a, b, c], [none, d, e], [no, nor, f]] = met;
+        assert_eq!([none, no, nor], [0; 3]);
+        assert!([a, b, c, d, e, f].iter().all(|&met| met > 100), "{met:?}");
+    }
+
+    /// Goals in which one cassette has a number that differs in one bit.
+    #[test]
+    fn goals_with_a_number_in_which_one_bit_differs() {
+        let mut random = Random::new(77);
+        let mut bits = [0; 12];
+        for _ in 0..8_000 {
+            let start = store(&mut random);
+            let goal = other_cassettes(&mut random, &start);
+            let only = |one: &Store, other: &Store| -> Vec<u16> {
+                let there = other.cassettes();
+                let mut only = one.cassettes();
+                only.retain(|it| !there.contains(it));
+                only
+            };
+            if let ([one], [other]) = (&only(&start, &goal)[..], &only(&goal, &start)[..])
+                && (one ^ other).is_power_of_two()
+            {
+                bits[(one ^ other).trailing_zeros() as usize] += 1;
             }
         }
-        assert!(own > 2_000 && other > 800, "{own} own, {other} other");
+        assert!(bits.iter().all(|&met| met > 20), "{bits:?}");
     }
 
     /// Goals that differ from the start in one depth, often the last, and in m.

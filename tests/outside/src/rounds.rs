@@ -2,7 +2,8 @@
 
 use crate::calls::Caller;
 use crate::{checks, expected, inputs};
-use halyard_model::{Random, image, play};
+use halyard_model::image::{self, Form};
+use halyard_model::{Random, Store, play};
 
 /// A pair of stores through the yes or no, the plan, and the replay of what was planned.
 pub fn pair(caller: &mut Caller, random: &mut Random) {
@@ -14,7 +15,7 @@ pub fn pair(caller: &mut Caller, random: &mut Random) {
 
     let planned = caller.plan(&start_image, &goal_image, list_len);
     let list = &planned.space.content()[..planned.answer.count as usize];
-    checks::replay(caller, &start_image, list, image::length(&start));
+    checks::replay(caller, &start_image, list, start_image.len());
 }
 
 /// Damaged bytes through every call on bytes alone, in each place of an image. Rows of orders have a round of their own.
@@ -31,6 +32,8 @@ pub fn damage(caller: &mut Caller, random: &mut Random) {
     let list = inputs::list(random, &store);
     let out_len = random.below(bytes.len() + 8);
     checks::replay(caller, &bytes, &list, out_len);
+    let form = inputs::form_named(random);
+    checks::convert(caller, &bytes, form, out_len);
 }
 
 /// A list, legal or not, through the replay, into space that is short, enough or more.
@@ -38,8 +41,25 @@ pub fn replay(caller: &mut Caller, random: &mut Random) {
     let store = inputs::store(random);
     let list = inputs::list(random, &store);
     let image = inputs::image(random, &store);
-    let out_len = inputs::out_len(random, &store, &image);
+    let out_len = inputs::out_len(random, image.len());
     checks::replay(caller, &image, &list, out_len);
+}
+
+/// A store to each form that there is, two that there are not and any, into space that is short, enough or more.
+pub fn convert(caller: &mut Caller, random: &mut Random) {
+    let store = inputs::store(random);
+    let image = inputs::image(random, &store);
+    for form in [0, 1, 2, 3, 4, random.byte()] {
+        let length = length_in(&store, form).unwrap_or(image.len());
+        let out_len = inputs::out_len(random, length);
+        checks::convert(caller, &image, form, out_len);
+    }
+}
+
+/// How many bytes a store has in a form, where it holds it.
+fn length_in(store: &Store, form: u8) -> Option<usize> {
+    let form = Form::named(form).ok().filter(|form| form.holds(store));
+    form.map(|form| image::length(store, form))
 }
 
 /// Goals that can be reached, that can't, and any, each planned into space of each length around the limit, none, and as long as the list itself is.
@@ -60,17 +80,25 @@ pub fn list_lengths(caller: &mut Caller, random: &mut Random) {
     }
 }
 
-/// A replay into space of each length around that of the image given and of the one written, by a list that is legal and by one that stops.
+/// A replay into space of each length around that of the image, by a list that is legal and by one that stops, and a conversion to each form into space of each
+/// length around that of what is written.
 pub fn out_lengths(caller: &mut Caller, random: &mut Random) {
     let store = inputs::store(random);
     let image = inputs::image(random, &store);
     let legal = inputs::legal_list(random, &store, 9);
     let stopped = [&legal[..], &[play::lift_byte(0, 0)]].concat();
-    let written = image::length(&store);
-    let around = written.saturating_sub(3)..image.len() + 4;
-    for out_len in around.chain([0, random.below(written)]) {
+    let mut around = |length: usize| {
+        let near = length.saturating_sub(3)..length + 4;
+        near.chain([0, random.below(length)])
+    };
+    for out_len in around(image.len()) {
         checks::replay(caller, &image, &legal, out_len);
         checks::replay(caller, &image, &stopped, out_len);
+    }
+    for form in 0..4 {
+        for out_len in around(length_in(&store, form).unwrap_or(image.len())) {
+            checks::convert(caller, &image, form, out_len);
+        }
     }
 }
 
@@ -88,6 +116,7 @@ pub fn all(caller: &mut Caller, random: &mut Random) {
         pair(caller, random);
         damage(caller, random);
         replay(caller, random);
+        convert(caller, random);
         orders(caller, random);
     }
     list_lengths(caller, random);

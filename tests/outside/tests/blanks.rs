@@ -1,8 +1,8 @@
-//! Blank carriers (document 02, 5/13): cases of each rule with the answers written out, the largest stores of blanks, and a single blank, which is answered
-//! like any other cassette.
+//! Blank carriers (document 02, 5/13): cases of each rule with the answers written out, in every form, the largest stores of blanks, and a single blank, which
+//! is answered like any other cassette.
 
 use halyard_model::image::{self, Form};
-use halyard_model::store::{BLANK, MOST_CASSETTE, MOST_DEPTH, MOST_SHAFTS};
+use halyard_model::store::{BLANK, MOST_DEPTH, MOST_SHAFTS};
 use halyard_model::{Random, Store, text};
 use halyard_outside::calls::{Answer, Caller, Order};
 use halyard_outside::inputs::{self, MOST_LIST_SPACE};
@@ -16,15 +16,24 @@ fn store(text: &str) -> Store {
     text::read(text).unwrap()
 }
 
+/// The image of a text's store, in form 0.
 fn bytes(text: &str) -> Vec<u8> {
-    image::write(&store(text))
+    image::write_in(&store(text), Form::OneDepth)
 }
 
-/// The yes or no gives this number, and so does a plan into as much space as it asks for, whose list is replayed.
+/// The image of a store in each form. All hold it.
+fn images(store: &Store) -> [Vec<u8>; 3] {
+    Form::ALL.map(|form| image::write_in(store, form))
+}
+
+/// The yes or no gives this number in every two forms, and so does a plan into as much space as it asks for, whose list is replayed.
 fn pair_is(start: &Store, goal: &Store, number: u8) {
-    let (from, to) = (image::write(start), image::write(goal));
-    checks::reachable(&mut caller(), &from, &to, number);
-    checks::plan(&mut caller(), &from, &to, start.list_space(), number);
+    for from in images(start) {
+        for to in images(goal) {
+            checks::reachable(&mut caller(), &from, &to, number);
+            checks::plan(&mut caller(), &from, &to, start.list_space(), number);
+        }
+    }
 }
 
 fn pair(start: &str, goal: &str, number: u8) {
@@ -32,9 +41,9 @@ fn pair(start: &str, goal: &str, number: u8) {
 }
 
 /// What an order is answered with: the number and the lifts.
-fn order_for(cassette: u8, store: &Store) -> (u8, u8) {
-    let named = Order::naming(cassette.into(), &mut Random::new(62));
-    let written = caller().uncover(&image::write(store), &[named]);
+fn order_for(cassette: u16, store: &Store) -> (u8, u8) {
+    let named = Order::naming(cassette, &mut Random::new(62));
+    let written = caller().uncover(&image::write_first(store), &[named]);
     assert_eq!(written.answer, Answer::of(0, 0));
     let [answered] = written.space.content() else {
         panic!("one order");
@@ -55,8 +64,10 @@ fn only_blanks_stand_twice() {
         let shafts = vec![vec![BLANK, number], vec![BLANK, number, BLANK]];
         let twice = Store::of_depth(3, shafts);
         let wanted = if number == BLANK { 0 } else { 5 };
-        let answer = caller().check(&image::write(&twice));
-        assert_eq!(answer, Answer::of(wanted, 0), "{number}");
+        for form in Form::ALL.into_iter().filter(|form| form.holds(&twice)) {
+            let answer = caller().check(&image::write_in(&twice, form));
+            assert_eq!(answer, Answer::of(wanted, 0), "{number} in {form:?}");
+        }
     }
 }
 
@@ -169,7 +180,7 @@ fn list_space() {
         "3x2: [b b] [1] []",
         "3x2: [1 2] [b] []",
     ] {
-        let (from, to) = (bytes(start), image::write(&turned(&store(start))));
+        let (from, to) = (bytes(start), image::write_first(&turned(&store(start))));
         let lent = |space| caller().plan(&from, &to, space).answer;
         assert_eq!(lent(48).number, 0, "{start}");
         for short in [0, 16, 32, 47] {
@@ -243,7 +254,7 @@ fn all_blanks() -> Store {
 }
 
 /// A cassette in place of another, by its shaft and row.
-fn with(mut store: Store, places: &[(usize, usize, u8)]) -> Store {
+fn with(mut store: Store, places: &[(usize, usize, u16)]) -> Store {
     for &(shaft, row, cassette) in places {
         store.shafts[shaft][row - 1] = cassette;
     }
@@ -261,7 +272,7 @@ fn without_tops(mut store: Store, shafts: &[usize]) -> Store {
 /// "A store may now hold 256 cassettes", "the longest image has 268 bytes" (in form 0), "the program lends 18,432 bytes".
 #[test]
 fn all_256_blanks() {
-    let image = image::write(&all_blanks());
+    let image = image::write_in(&all_blanks(), Form::OneDepth);
     assert_eq!((image.len(), MOST_LIST_SPACE), (268, 18_432));
     assert_eq!(caller().check(&image), Answer::of(0, 0));
     assert_eq!(caller().reachable(&image, &image), Answer::of(0, 0));
@@ -293,7 +304,7 @@ fn defined(name: &str) -> usize {
 #[test]
 fn constants_of_the_header() {
     assert_eq!(defined("HALYARD_BLANK"), BLANK.into());
-    let image = image::write_in(&all_blanks(), Form::Depths);
+    let image = image::write_in(&all_blanks(), Form::Wide);
     assert_eq!(defined("HALYARD_IMAGE_MAX"), image.len());
     assert_eq!(defined("HALYARD_LIST_MAX"), all_blanks().list_space());
 }
@@ -308,8 +319,9 @@ fn full_of_blanks_but_for_a_few() {
     let moved = [(0, 16, 1), (5, 2, 254), (15, 16, 7)];
     pair_is(&full, &with(all_blanks(), &moved), 15);
     let twice = [(0, 16, 1), (5, 1, 254), (15, 16, 254)];
-    let image = image::write(&with(all_blanks(), &twice));
-    assert_eq!(caller().check(&image), Answer::of(5, 0));
+    for image in images(&with(all_blanks(), &twice)) {
+        assert_eq!(caller().check(&image), Answer::of(5, 0));
+    }
     pair_is(&full, &all_blanks(), 9);
     pair_is(&full, &without_tops(full.clone(), &[1]), 9);
 }
@@ -345,8 +357,8 @@ fn blanks_but_for_a_few_and_two_slots() {
 /// 254 cassettes, no two the same, in 16 x 16: rows 1 to 13 are never uncovered. Then blanks in place of some of them.
 #[test]
 fn orders_in_the_largest_store() {
-    let others: Vec<u8> = (1..BLANK).collect();
-    let shafts = others.chunks(MOST_DEPTH).map(<[u8]>::to_vec).collect();
+    let others: Vec<u16> = (1..=254).collect();
+    let shafts = others.chunks(MOST_DEPTH).map(<[u16]>::to_vec).collect();
     let different = Store::of_depth(MOST_DEPTH, shafts);
     let with_blanks = |places: &[(usize, usize)]| {
         let blanks: Vec<_> = places
@@ -365,7 +377,7 @@ fn orders_in_the_largest_store() {
 }
 
 /// The store with its blank under another number.
-fn renamed(store: &Store, number: u8) -> Store {
+fn renamed(store: &Store, number: u16) -> Store {
     let mut renamed = store.clone();
     let slots = renamed.shafts.iter_mut().flatten();
     slots
@@ -374,17 +386,17 @@ fn renamed(store: &Store, number: u8) -> Store {
     renamed
 }
 
-/// An old image with one blank is answered as before: as if the blank were another cassette that the store has not.
+/// A store with one blank is answered as if the blank were another cassette that the store has not.
 #[test]
 fn a_single_blank_is_like_any_cassette() {
     let mut random = Random::new(63);
     for _ in 0..3_000 {
         let (m, h) = (random.from_to(1, 16), random.from_to(1, 16));
-        let n = random.from_to(1, (m * h).min(MOST_CASSETTE - 1));
+        let n = random.from_to(1, m * h);
         let start = random.store_with_blanks(m, h, n, 1);
-        let absent: Vec<u8> = (1..BLANK)
-            .filter(|number| !start.cassettes().contains(number))
-            .collect();
+        let there = start.cassettes();
+        let all = *random.one_of(&[256, BLANK]);
+        let absent: Vec<u16> = (1..all).filter(|it| !there.contains(it)).collect();
         let number = *random.one_of(&absent);
         let goal = match random.below(3) {
             0 => random.rearranged(&start),
@@ -405,14 +417,14 @@ fn a_single_blank_is_like_any_cassette() {
 
 /// What the yes or no answers, and the number of a plan: which list it makes is free.
 fn pair_answers(start: &Store, goal: &Store, space: usize) -> (Answer, u8) {
-    let (from, to) = (image::write(start), image::write(goal));
+    let (from, to) = (image::write_first(start), image::write_first(goal));
     let planned = caller().plan(&from, &to, space);
     (caller().reachable(&from, &to), planned.answer.number)
 }
 
 /// What a replay answers, and the store that it writes.
 fn replayed(store: &Store, list: &[u8]) -> (Answer, Store) {
-    let image = image::write(store);
+    let image = image::write_first(store);
     let written = caller().replay(&image, list, image.len());
     let end = image::read(written.space.content()).unwrap();
     (written.answer, end)

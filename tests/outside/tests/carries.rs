@@ -2,9 +2,10 @@
 //! prints it: it replays a list with the proved library and does its lifts one by one, and what it prints is compared with lifts of the model. Carries of
 //! blanks are counted together (5/13); the counts beside the single blanks must add up to that, and which of them has how many is free.
 
+use halyard_model::image::{self, Form};
 use halyard_model::play::{self, Replayed};
 use halyard_model::store::{BLANK, MOST_CASSETTES, MOST_DEPTH, MOST_SHAFTS};
-use halyard_model::{Random, Store, image, text};
+use halyard_model::{Random, Store, text};
 use halyard_outside::inputs;
 use std::fs;
 use std::path::PathBuf;
@@ -86,7 +87,7 @@ fn with_blanks_together(printed: &str) -> String {
 
 /// What is printed of a replay that ended like this, and of the same lifts one by one, with blanks together.
 fn expected(start: &Store, list: &[u8], end: &Replayed) -> String {
-    let times = |cassette: u8| end.carries[usize::from(cassette)];
+    let times = |cassette: u16| end.carries[usize::from(cassette)];
     let line = |cassette| format!("{cassette} {0} {0}\n", times(cassette));
     let lines: String = end.store.cassettes().into_iter().map(line).collect();
     let (number, count) = (end.number, end.count);
@@ -125,7 +126,7 @@ fn compare(image: &[u8], list: &[u8]) -> Result<Replayed, u8> {
 }
 
 fn bytes(store: &str) -> Vec<u8> {
-    image::write(&text::read(store).unwrap())
+    image::write_first(&text::read(store).unwrap())
 }
 
 /// "m 3, h 1, [1] [2] [] to [2] [1] []: yes; bytes 02 10 21 (hexadecimal) do it."
@@ -152,7 +153,7 @@ fn blanks_are_counted_together() {
     assert_eq!(with_blanks_together(&printed), wanted);
 }
 
-/// Shafts of depth 3, 1 and 2: the second is full with one cassette. The same store in form 1 with equal depths is answered as in form 0.
+/// Shafts of depth 3, 1 and 2: the second is full with one cassette. A store of equal depths in form 1 is answered as in form 0.
 #[test]
 fn shafts_of_unequal_depth() {
     let store = bytes("3x3,1,2: [1 2 3] [] [4 5]");
@@ -162,6 +163,25 @@ fn shafts_of_unequal_depth() {
     let wanted = "number 0\nlifts 1\n1 0 0\n2 1 1\n3 0 0\ntold 2 1\n";
     assert_eq!(printed(&example, &[0x01]), wanted);
     assert_eq!(printed(&bytes("3x2: [1 2] [] [3]"), &[0x01]), wanted);
+}
+
+/// One store in each form, with 255 as the blank's byte in the first two; and numbers that only form 2 holds, counted each by itself.
+#[test]
+fn each_form() {
+    let store = text::read("3x2: [1 b] [] [b]").unwrap();
+    let (blank, told) = (format!("{BLANK} 1 1\n"), usize::from(BLANK));
+    let wanted = format!("number 0\nlifts 1\n1 0 0\n{blank}{blank}told {told} 1\n");
+    for form in Form::ALL {
+        let image = image::write_in(&store, form);
+        let printed = printed(&image, &[0x01]);
+        assert_eq!(with_blanks_together(&printed), wanted, "{form:?}");
+    }
+    let store = bytes("3x3: [255 256 b] [1] [4094]");
+    let wanted = format!(
+        "number 0\nlifts 6\n255 0 0\n256 0 0\n1 1 1\n{BLANK} 2 2\n4094 3 3\ntold 20473 14\n"
+    );
+    let list = [0x01, 0x21, 0x10, 0x12, 0x02, 0x10];
+    assert_eq!(printed(&store, &list), wanted);
 }
 
 /// A lift that is refused counts nothing, nor does what comes after it; the single lifts go on past it.
@@ -185,7 +205,7 @@ fn met(ends: &[Replayed], like: impl Fn(&Replayed) -> bool) -> usize {
     ends.iter().filter(|end| like(end)).count()
 }
 
-/// Stores of every count of shafts and greatest depth, with equal depths and with any, in either form, with lists that run through and lists that stop.
+/// Stores of every count of shafts and greatest depth, with equal depths and with any, in every form, with lists that run through and lists that stop.
 #[test]
 fn every_shape() {
     let mut random = Random::new(51);
@@ -220,6 +240,8 @@ fn every_shape() {
         end.store.blanks() > 1 && end.carries[usize::from(BLANK)] > 1
     });
     assert!(blanks >= 100, "blanks carried again: {blanks} times");
+    let past = met(&ends, |end| end.carries[255..4095].iter().any(|&it| it > 1));
+    assert!(past >= 100, "numbers past a byte again: {past} times");
 }
 
 /// A refused image has its number printed, and nothing else.
@@ -247,7 +269,7 @@ fn longest_lists() {
     for (n, blanks) in [(1, 0), (240, 0), (254, 0), (255, 1), (255, 130), (255, 255)] {
         let store = random.store_with_blanks(MOST_SHAFTS, MOST_DEPTH, n, blanks);
         let list = inputs::legal_list(&mut random, &store, MOST_LIFTS);
-        let end = compare(&image::write(&store), &list).unwrap();
+        let end = compare(&inputs::image(&mut random, &store), &list).unwrap();
         assert_eq!((end.number, end.count), (0, MOST_LIFTS));
     }
 }
@@ -266,7 +288,7 @@ fn all_blanks() {
     let mut random = Random::new(55);
     let n = MOST_CASSETTES;
     let store = random.store_with_blanks(MOST_SHAFTS, MOST_DEPTH, n, n);
-    let end = compare(&image::write(&store), &[0x01]).unwrap();
+    let end = compare(&image::write_in(&store, Form::Wide), &[0x01]).unwrap();
     assert_eq!((end.number, end.count), (14, 0));
 }
 
@@ -282,6 +304,6 @@ fn a_small_stack() {
         .arg(program());
     command.env_clear();
     let wanted = expected(&store, &list, &play::replay(&store, &list));
-    let printed = printed_by(command, &image::write(&store), &list);
+    let printed = printed_by(command, &image::write_in(&store, Form::Wide), &list);
     assert_eq!(with_blanks_together(&printed), wanted);
 }

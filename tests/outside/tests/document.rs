@@ -1,12 +1,13 @@
 //! The cases that document 01 gives, "Filled stores to try", and NULL with length 0, with the answers written out.
 
-use halyard_model::{image, text};
+use halyard_model::image::{self, Form};
+use halyard_model::text;
 use halyard_outside::calls::{Answer, Caller, c};
 use halyard_outside::guarded::GUARD;
 use std::ptr::{null, null_mut};
 
 fn bytes(store: &str) -> Vec<u8> {
-    image::write(&text::read(store).unwrap())
+    image::write_in(&text::read(store).unwrap(), Form::OneDepth)
 }
 
 fn caller() -> Caller {
@@ -133,6 +134,10 @@ fn null_with_length_0() {
         assert_eq!(c::halyard_replay(image, len, null(), 0, null_mut(), 0), 10);
         let nothing_played = c::halyard_replay(image, len, null(), 0, out.as_mut_ptr(), len);
         assert_eq!(nothing_played, 0);
+        assert_eq!(c::halyard_convert(null(), 0, 0, null_mut(), 0), 2);
+        assert_eq!(c::halyard_convert(null(), 0, 3, null_mut(), 0), 2);
+        assert_eq!(c::halyard_convert(image, len, 0, null_mut(), 0), 10);
+        assert_eq!(c::halyard_convert(image, len, 3, null_mut(), 0), 1);
     }
     assert_eq!(out, store);
 }

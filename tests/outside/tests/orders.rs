@@ -1,7 +1,8 @@
 //! Rows of orders (document 02, 1/13): every number in every store of the shapes with at most six slots, with every count of blanks, against a full search
 //! for the fewest lifts, and random rows.
 
-use halyard_model::{Random, image, text};
+use halyard_model::image::{self, Form};
+use halyard_model::{Random, text};
 use halyard_outside::calls::{Answer, Caller, Order, c};
 use halyard_outside::{checks, every, guarded::GUARD, rounds};
 use std::ptr::null_mut;
@@ -35,15 +36,21 @@ fn random_rows() {
         assert!(caller.answers_with(number) > 100, "{number} is rare");
     }
     assert!(caller.unequal_with(0) > 1_000, "unequal depths are rare");
+    for form in Form::ALL {
+        assert!(caller.in_form_with(form, 0) > 1_000, "{form:?} is rare");
+    }
     for number in [0, 16, 17] {
         assert!(caller.orders_with(number) > 10_000, "{number} is rare");
+        let past = caller.orders_past_a_byte_with(number);
+        assert!(past > 10_000, "{number} past a byte: {past} times");
     }
     for lifts in 0..16 {
         assert!(caller.orders_after(lifts) > 1_000, "{lifts} lifts are rare");
     }
 }
 
-/// The row of every number that an order can name, on 16 x 16 with one and with sixteen empty slots, on three shafts, and on one, with and without blanks.
+/// The row of every number that an order can name, on 16 x 16 with none, one and sixteen empty slots, on three shafts, and on one, with and without blanks, in each
+/// form that holds the store.
 #[test]
 fn every_name() {
     let mut random = Random::new(43);
@@ -53,13 +60,21 @@ fn every_name() {
         stores.push(random.store(m, h, n));
         stores.push(random.store_with_blanks(m, h, n, n / 2));
     }
+    stores.push(random.store_with_blanks(16, 16, 256, 0));
+    stores.push(random.store_with_blanks(3, 16, 40, 0));
     for store in stores {
-        let image = image::write(&store);
         let orders: Vec<_> = (0..=65_535)
             .map(|name| Order::naming(name, &mut random))
             .collect();
-        checks::uncover(&mut caller, &image, &orders);
+        for form in Form::ALL.into_iter().filter(|form| form.holds(&store)) {
+            checks::uncover(&mut caller, &image::write_in(&store, form), &orders);
+        }
     }
+    for form in Form::ALL {
+        assert!(caller.in_form_with(form, 0) > 2, "{form:?} is rare");
+    }
+    let found = caller.orders_past_a_byte_with(0);
+    assert!(found > 100, "found past a byte: {found} times");
 }
 
 /// Answers written out: `[1 4 5 6] [2 7 8] [3 9]` of depth 4 has three empty slots, so that row 1 can just be uncovered; with one cassette more it can't.
@@ -88,7 +103,7 @@ fn answers_by_hand() {
 
 fn answered(store: &str, row: &[Order]) {
     let mut random = Random::new(44);
-    let image = image::write(&text::read(store).unwrap());
+    let image = image::write_first(&text::read(store).unwrap());
     let orders: Vec<_> = row
         .iter()
         .map(|order| Order::naming(order.cassette, &mut random))
@@ -100,7 +115,7 @@ fn answered(store: &str, row: &[Order]) {
 /// A row that begins two bytes past a multiple of four, as C may place it: an order is a word for its cassette and one for its answer.
 #[test]
 fn a_row_aligned_to_two() {
-    let image = image::write(&text::read("3x4: [1 4 5 6] [2 7 8] [3 9 10]").unwrap());
+    let image = image::write_first(&text::read("3x4: [1 4 5 6] [2 7 8] [3 9 10]").unwrap());
     let mut words = [0, 4, 0xAAAA, 1, 0xAAAA, 11, 0xAAAA, 0xAAAA].to_vec();
     let place: *mut u16 = words.as_mut_ptr();
     if place.align_offset(4) != 0 {
@@ -126,13 +141,14 @@ fn a_row_aligned_to_two() {
 fn refused_images() {
     let mut caller = Caller::new(45, GUARD);
     let mut random = Random::new(45);
-    let image = image::write(&random.store(3, 2, 4));
+    let image = image::write_first(&random.store(3, 2, 4));
     let orders: Vec<_> = (0..300)
         .map(|name| Order::naming(name, &mut random))
         .collect();
     for (bytes, number) in [
         (&[][..], 2),
-        (&[0x20], 1),
+        (&[0x30], 1),
+        (&[0x20], 2),
         (&[0x10], 2),
         (&image[..image.len() - 1], 2),
         (&[&image[..], &[0]].concat(), 7),
@@ -144,7 +160,7 @@ fn refused_images() {
 /// NULL is taken where there is no order.
 #[test]
 fn null_with_length_0() {
-    let image = image::write(&text::read("3x1: [1] [2] []").unwrap());
+    let image = image::write_first(&text::read("3x1: [1] [2] []").unwrap());
     // SAFETY: the image has as many bytes as are named, NULL none, and there is no order.
     unsafe {
         let none = c::halyard_uncover(image.as_ptr(), image.len(), null_mut(), 0);

@@ -4,6 +4,7 @@ use halyard_model::search::{Search, every_store};
 use halyard_model::store::BLANK;
 use halyard_model::{Random, Store, image, text};
 use halyard_outside::calls::Caller;
+use halyard_outside::inputs;
 use halyard_outside::{checks, guarded::GUARD};
 
 /// Searches that find more stores than this are given up.
@@ -21,18 +22,24 @@ fn compare_from_a_start(caller: &mut Caller, random: &mut Random, start: &Store)
         goals.push(random.rearranged(start));
         goals.extend(random.unreachable_goal(start));
     }
-    compare_goals(caller, start, &search, &goals);
+    compare_goals(caller, random, start, &search, &goals);
     true
 }
 
-/// The calls for each goal, with "no" as the search has it.
-fn compare_goals(caller: &mut Caller, start: &Store, search: &Search, goals: &[Store]) {
-    let from = image::write(start);
+/// The calls for each goal, with "no" as the search has it. Start and goal are in any forms that hold them.
+fn compare_goals(
+    caller: &mut Caller,
+    random: &mut Random,
+    start: &Store,
+    search: &Search,
+    goals: &[Store],
+) {
+    let from = inputs::image(random, start);
     for goal in goals {
         let number = if search.reaches(goal) { 0 } else { 15 };
-        let to = image::write(goal);
+        let to = inputs::image(random, goal);
         checks::reachable(caller, &from, &to, number);
-        checks::plans(caller, start, goal, number);
+        checks::plans(caller, &from, &to, start.list_space(), number);
     }
 }
 
@@ -123,12 +130,13 @@ fn unequal_depths(random: &mut Random) -> Vec<usize> {
 #[test]
 fn every_goal_of_six_blanks_and_three_others() {
     let mut caller = Caller::new(14, GUARD);
+    let mut random = Random::new(14);
     let start = text::read("3x4: [1 b b 2] [b b b] [3 b]").unwrap();
     let goals = every_store(&start.depths, &start.cassettes());
     assert_eq!(goals.len(), 5_040);
     let search = Search::all(&start, MOST);
     assert!(search.ended());
-    compare_goals(&mut caller, &start, &search, &goals);
+    compare_goals(&mut caller, &mut random, &start, &search, &goals);
     // The six free cassettes, one of them no blank, in any order, and three empty slots over three shafts.
     assert_eq!(search.count(), 6 * 10);
 }
@@ -146,10 +154,9 @@ fn blanks_but_for_a_few_in_sixteen_shafts_of_sixteen() {
     let search = Search::all(&start, MOST);
     assert!(search.ended());
     assert_eq!(search.count(), 16 * 15 * 14);
-    let found = search.images().map(|image| image::read(image).unwrap());
-    let mut goals: Vec<Store> = found.collect();
+    let mut goals: Vec<Store> = search.stores().cloned().collect();
     goals.extend((0..300).filter_map(|_| random.unreachable_goal(&start)));
-    compare_goals(&mut caller, &start, &search, &goals);
+    compare_goals(&mut caller, &mut random, &start, &search, &goals);
     for number in [0, 15] {
         assert!(caller.answers_with(number) >= 600, "{number} is rare");
     }
@@ -161,6 +168,12 @@ fn every_goal_of_eight_cassettes_in_three_shafts_of_four() {
     every_goal_is_reached("3x4: [1 2 3 4] [5 6 7 8] []", 604_800);
 }
 
+/// The same with numbers next to 255, the greatest, and such as share their low bits.
+#[test]
+fn every_goal_of_cassettes_past_a_byte() {
+    every_goal_is_reached("3x4: [254 b 256 b] [255 4094 b b] []", 25_200);
+}
+
 #[test]
 fn every_goal_of_four_cassettes_and_four_blanks_in_three_shafts_of_four() {
     every_goal_is_reached("3x4: [b 2 b 4] [1 b 3 b] []", 25_200);
@@ -169,12 +182,12 @@ fn every_goal_of_four_cassettes_and_four_blanks_in_three_shafts_of_four() {
 fn every_goal_is_reached(start: &str, count: usize) {
     let mut caller = Caller::new(12, GUARD);
     let start = text::read(start).unwrap();
-    let from = image::write(&start);
+    let from = image::write_first(&start);
     let goals = every_store(&start.depths, &start.cassettes());
     assert_eq!(goals.len(), count);
     for goal in goals {
-        let to = image::write(&goal);
+        let to = image::write_first(&goal);
         checks::reachable(&mut caller, &from, &to, 0);
-        checks::plans(&mut caller, &start, &goal, 0);
+        checks::plans(&mut caller, &from, &to, start.list_space(), 0);
     }
 }

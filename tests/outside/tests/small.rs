@@ -1,6 +1,7 @@
-//! Every pair of stores of the shapes with at most six slots, with blanks among the cassettes and without, against a full search.
+//! Every pair of stores of the shapes with at most six slots, with blanks among the cassettes and without, in every two forms, against a full search.
 
 use halyard_model::Random;
+use halyard_model::image::Form;
 use halyard_outside::calls::Caller;
 use halyard_outside::{every, guarded::GUARD};
 
@@ -15,11 +16,24 @@ fn compare_shapes(m: usize, largest: usize) {
         for n in 0..=m * h {
             for blanks in every::counts_of_blanks(&mut random, n) {
                 let cassettes = random.cassettes_with_blanks(n, blanks);
-                most = most.max(every::pairs(&mut caller, &vec![h; m], &cassettes));
+                let stores = every::pairs(&mut caller, &mut random, &vec![h; m], &cassettes);
+                most = most.max(stores);
             }
         }
     }
     assert_eq!(most, largest, "stores of the largest set");
+    for (start, goal) in Form::ALL
+        .iter()
+        .flat_map(|one| Form::ALL.map(|two| (*one, two)))
+    {
+        let answers = [0, 15].map(|number| caller.pairs_with(start, goal, number));
+        assert!(
+            answers.iter().sum::<u64>() > 20,
+            "{start:?}, {goal:?}: {answers:?} times"
+        );
+    }
+    let past = caller.past_a_byte_with(0);
+    assert!(past > 100, "numbers past a byte: {past} times");
 }
 
 #[test]

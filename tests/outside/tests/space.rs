@@ -1,13 +1,14 @@
 //! Too little space, or impossible (request 6/13): cases with the answers written out, each into no space, one byte, a byte less than
 //! the list space, as much, a byte more, the most that any store asks for, and more than 16 bits can count.
 
-use halyard_model::{image, text};
+use halyard_model::image::{self, Form};
+use halyard_model::text;
 use halyard_outside::calls::{Answer, Caller};
 use halyard_outside::guarded::GUARD;
 use halyard_outside::inputs::MOST_LIST_SPACE;
 
 fn bytes(store: &str) -> Vec<u8> {
-    image::write(&text::read(store).unwrap())
+    image::write_in(&text::read(store).unwrap(), Form::OneDepth)
 }
 
 /// The number that a plan gives into space of this length. What has no list has count 0 and leaves every byte.

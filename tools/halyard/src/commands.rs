@@ -11,6 +11,9 @@ const HELP: &str = "\
 halyard: stores as text and as images, and lists played for a person to see
 
   halyard image TEXT [FILE]        write the image of a store to FILE, or show its bytes in hexadecimal
+  halyard image --form N TEXT [FILE]
+                                   the same in form N
+  halyard convert IMAGE N [FILE]   write the store of an image file in form N to FILE, or show its bytes
   halyard text STORE               show a store as text
   halyard show STORE               draw a store
   halyard play STORE LIST          draw a store, and again after each lift of a list, and count the carries
@@ -19,9 +22,11 @@ halyard: stores as text and as images, and lists played for a person to see
   halyard depth STORE CASSETTE…    draw a store, and say what is to be lifted away from each cassette
 
 TEXT is such as '3x2: [1 2] [b] [3 b]': shafts, depth, the cassettes of each shaft bottom first.
-Where the depths are unequal each shaft has its own: '3x3,2,2: [1 2 3] [4] [5]'. An image is written
-in form 0 where all depths are equal, in form 1 where they are not, and read in both forms.
+Where the depths are unequal each shaft has its own: '3x3,2,2: [1 2 3] [4] [5]'.
 b is a blank carrier, which may stand more than once; its cassette number, {BLANK}, says the same.
+Images are read in the forms 0, 1 and 2, and written in the form named, or else in the first that can
+hold the store: form 0 equal depths alone, forms 0 and 1 cassettes up to 254 and blanks alone, form 2
+every store.
 STORE, START and GOAL are an image file or TEXT. LIST is a file that has what the program 'plan'
 printed, or '-' for standard input; with --bytes it has a byte for each lift, as the C calls write it.
 The carries are how often each cassette of the store was carried, blanks together, up to a lift that
@@ -54,6 +59,10 @@ fn not_understood() -> String {
 
 /// Does what the words ask, or gives what is wrong with them.
 pub fn run(words: &[&str]) -> Result<Said, String> {
+    if let ["image", "--form", form, text, file @ ..] = words {
+        let bytes = image_in(&text::read(text)?, form)?;
+        return Ok(written(&bytes, file)?.into());
+    }
     let (options, words): (Vec<&str>, Vec<&str>) =
         words.iter().partition(|word| word.starts_with("--"));
     let known: &[&str] = match words.first() {
@@ -66,8 +75,14 @@ pub fn run(words: &[&str]) -> Result<Said, String> {
     }
     let bytes = options.contains(&"--bytes");
     match words[..] {
-        ["image", text] => Ok(hexadecimal(&image::write(&text::read(text)?)).into()),
-        ["image", text, file] => Ok(write_image(text, file)?.into()),
+        ["image", text, ref file @ ..] => {
+            let bytes = image::write_first(&text::read(text)?);
+            Ok(written(&bytes, file)?.into())
+        }
+        ["convert", image, form, ref file @ ..] => {
+            let bytes = image_in(&read_image(image)?, form)?;
+            Ok(written(&bytes, file)?.into())
+        }
         ["text", store] => Ok((text::write(&read_store(store)?) + "\n").into()),
         ["show", store] => Ok(draw::store(&read_store(store)?, &[]).into()),
         ["play", store, list] => {
@@ -91,10 +106,33 @@ fn hexadecimal(bytes: &[u8]) -> String {
     words.join(" ") + "\n"
 }
 
-fn write_image(text: &str, file: &str) -> Result<String, String> {
-    let bytes = image::write(&text::read(text)?);
-    fs::write(file, &bytes).map_err(|wrong| format!("{file}: {wrong}"))?;
-    Ok(format!("{file}: {} bytes\n", bytes.len()))
+/// The image of a store in the form that a word names, or why there is none.
+fn image_in(store: &Store, word: &str) -> Result<Vec<u8>, String> {
+    let wrong = |_| format!("'{word}' is no number of a form");
+    let number: u8 = word.parse().map_err(wrong)?;
+    image::write_as(store, number).map_err(|refused| {
+        let first = image::first_form(store) as u8;
+        let which = match refused {
+            18 => format!(" (form {first} can)"),
+            _ => String::new(),
+        };
+        format!(
+            "form {number}: refused {refused}, {}{which}",
+            meaning(refused)
+        )
+    })
+}
+
+/// Writes bytes to the file named, or shows them where there is none.
+fn written(bytes: &[u8], file: &[&str]) -> Result<String, String> {
+    match file {
+        [] => Ok(hexadecimal(bytes)),
+        [file] => {
+            fs::write(file, bytes).map_err(|wrong| format!("{file}: {wrong}"))?;
+            Ok(format!("{file}: {} bytes\n", bytes.len()))
+        }
+        _ => Err(not_understood()),
+    }
 }
 
 fn read_file(file: &str) -> Result<Vec<u8>, String> {
@@ -106,8 +144,12 @@ fn read_store(word: &str) -> Result<Store, String> {
     if word.contains('[') {
         return text::read(word);
     }
-    let refused = |number| format!("{word}: refused {number}, {}", meaning(number));
-    image::read(&read_file(word)?).map_err(refused)
+    read_image(word)
+}
+
+fn read_image(file: &str) -> Result<Store, String> {
+    let refused = |number| format!("{file}: refused {number}, {}", meaning(number));
+    image::read(&read_file(file)?).map_err(refused)
 }
 
 fn read_list(file: &str, bytes: bool) -> Result<Vec<u8>, String> {
@@ -124,10 +166,10 @@ fn read_list(file: &str, bytes: bool) -> Result<Vec<u8>, String> {
     text::read_list(&String::from_utf8_lossy(&content))
 }
 
-/// What a number says of an image, of two stores, of a lift or of an order.
+/// What a number says of an image, of two stores, of a lift, of an order or of a form to be written.
 pub fn meaning(number: u8) -> &'static str {
     match number {
-        1 => "the form is neither 0 nor 1",
+        1 => "the form is above 2",
         2 => "the image ends before its last field",
         3 => "a height above the depth of its shaft",
         4 => "a cassette number 0",
@@ -139,7 +181,11 @@ pub fn meaning(number: u8) -> &'static str {
         14 => "the shaft entered is full, by its own depth",
         16 => "it is not in the store",
         17 => "no list of lifts uncovers it",
-        _ => "which no image, no two stores, no lift and no order get here",
+        18 => {
+            "the form can't hold the store: forms 0 and 1 no cassette from 255 to 4094, \
+             form 0 no unequal depths"
+        }
+        _ => "which nothing gets here",
     }
 }
 
@@ -192,7 +238,7 @@ mod tests {
                 &[0x01, 0x11][..],
                 "refused 2, the image ends before its last field",
             ),
-            ("form", &[0x21], "refused 1, the form is neither 0 nor 1"),
+            ("form", &[0x31], "refused 1, the form is above 2"),
             (
                 "height",
                 &[0x11, 0xF0, 0x00, 0x80],
@@ -215,15 +261,110 @@ mod tests {
         assert_eq!(wrong, "shaft 1 is higher than its depth, 1");
     }
 
-    /// It prints as the same store in form 0 does, and what it prints is written in that form.
+    /// The example in each form.
+    const FORMS: [&str; 3] = [
+        "02 11 00 81 00 20 60\n",
+        "12 11 00 81 08 04 20 60\n",
+        "22 11 00 08 01 08 04 20 06\n",
+    ];
+
+    /// The bytes that the tool shows in hexadecimal.
+    fn from_hexadecimal(text: &str) -> Vec<u8> {
+        let byte = |word| u8::from_str_radix(word, 16).unwrap();
+        text.split_whitespace().map(byte).collect()
+    }
+
+    /// Whatever form an image has, its store is the same, and is written in the form named.
     #[test]
-    fn form_1_with_equal_depths() {
-        let image = [0x12, 0x11, 0x00, 0x81, 0x08, 0x04, 0x20, 0x60];
-        let file = Scratch::holding("form-1", &image);
-        assert_eq!(prints(&["text", &file.0]), format!("{EXAMPLE}\n"));
-        assert_eq!(prints(&["show", &file.0]), prints(&["show", EXAMPLE]));
-        let written = prints(&["image", prints(&["text", &file.0]).trim_end()]);
-        assert_eq!(written, "02 11 00 81 00 20 60\n");
+    fn one_store_in_each_form() {
+        for (form, bytes) in ["0", "1", "2"].into_iter().zip(FORMS) {
+            assert_eq!(prints(&["image", "--form", form, EXAMPLE]), bytes);
+            let file = Scratch::holding(&format!("form-{form}"), &from_hexadecimal(bytes));
+            assert_eq!(prints(&["text", &file.0]), format!("{EXAMPLE}\n"));
+            assert_eq!(prints(&["show", &file.0]), prints(&["show", EXAMPLE]));
+            for (to, bytes) in ["0", "1", "2"].into_iter().zip(FORMS) {
+                assert_eq!(prints(&["convert", &file.0, to]), bytes);
+            }
+        }
+        assert_eq!(prints(&["image", EXAMPLE]), FORMS[0]);
+    }
+
+    #[test]
+    fn images_and_conversions_in_files() {
+        let [one, other] = ["one", "other"].map(|name| Scratch::holding(name, &[]));
+        let said = prints(&["image", "--form", "2", EXAMPLE, &one.0]);
+        assert_eq!(said, format!("{}: 9 bytes\n", one.0));
+        let said = prints(&["convert", &one.0, "1", &other.0]);
+        assert_eq!(said, format!("{}: 8 bytes\n", other.0));
+        assert_eq!(fs::read(&other.0).unwrap(), from_hexadecimal(FORMS[1]));
+    }
+
+    /// The first form that holds a store: by its depths and by its numbers.
+    #[test]
+    fn the_first_form_that_holds_a_store() {
+        for (text, form) in [
+            ("2x2: [1 254] [b b]", '0'),
+            ("2x2,1: [1 254] [b]", '1'),
+            ("2x2: [1 255] [b b]", '2'),
+            ("2x2,1: [1 4094] [b]", '2'),
+        ] {
+            assert!(prints(&["image", text]).starts_with(form), "{text}");
+        }
+    }
+
+    /// Forms that there are not, and forms that can't hold a store.
+    #[test]
+    fn forms_that_are_refused() {
+        let can_not = "refused 18, the form can't hold the store: forms 0 and 1 no cassette from 255 to 4094, \
+                       form 0 no unequal depths";
+        for (form, text, wrong) in [
+            (
+                "3",
+                EXAMPLE,
+                "form 3: refused 1, the form is above 2".to_string(),
+            ),
+            (
+                "255",
+                EXAMPLE,
+                "form 255: refused 1, the form is above 2".to_string(),
+            ),
+            (
+                "0",
+                "2x2,1: [1] [2]",
+                format!("form 0: {can_not} (form 1 can)"),
+            ),
+            (
+                "0",
+                "2x2: [255] [2]",
+                format!("form 0: {can_not} (form 2 can)"),
+            ),
+            (
+                "1",
+                "2x2: [4094] [2]",
+                format!("form 1: {can_not} (form 2 can)"),
+            ),
+            ("two", EXAMPLE, "'two' is no number of a form".to_string()),
+            ("256", EXAMPLE, "'256' is no number of a form".to_string()),
+            ("-1", EXAMPLE, "'-1' is no number of a form".to_string()),
+        ] {
+            let said = run(&["image", "--form", form, text]);
+            assert_eq!(said, Err(wrong.clone()), "{form} {text}");
+            let file = Scratch::holding("refused", &image::write_first(&text::read(text).unwrap()));
+            assert_eq!(run(&["convert", &file.0, form]), Err(wrong));
+        }
+        let cut = Scratch::holding("cut-form", &[0x01, 0x11]);
+        let wrong = run(&["convert", &cut.0, "3"]).unwrap_err();
+        assert!(wrong.ends_with("refused 2, the image ends before its last field"));
+    }
+
+    /// 255 is the blank in forms 0 and 1, and a cassette in form 2.
+    #[test]
+    fn the_number_255() {
+        let old = Scratch::holding("old", &[0x00, 0x00, 0xFF, 0x80]);
+        assert_eq!(prints(&["text", &old.0]), "1x1: [b]\n");
+        assert_eq!(prints(&["convert", &old.0, "2"]), "20 00 ff f8\n");
+        let new = Scratch::holding("new", &[0x20, 0x00, 0x87, 0xF8]);
+        assert_eq!(prints(&["text", &new.0]), "1x1: [255]\n");
     }
 
     #[test]
@@ -368,6 +509,12 @@ mod tests {
             &["show"],
             &["show", "--end", EXAMPLE],
             &["depth", EXAMPLE],
+            &["image"],
+            &["image", "--form", "1"],
+            &["image", EXAMPLE, "--form"],
+            &["show", "--form", "1", EXAMPLE],
+            &["convert", EXAMPLE],
+            &["image", EXAMPLE, "one", "two"],
         ];
         for words in unknown {
             assert!(run(words).is_err(), "{words:?}");

@@ -25,7 +25,7 @@ pub fn run(store: &Store, words: &[&str]) -> Result<Said, String> {
 
 fn cassette(word: &str) -> Result<u16, String> {
     if word == BLANK_WORD {
-        return Ok(BLANK.into());
+        return Ok(BLANK);
     }
     let wrong = |_| format!("'{word}' is no number from 0 to 65535, nor {BLANK_WORD}");
     word.parse().map_err(wrong)
@@ -51,12 +51,7 @@ fn line(store: &Store, cassette: u16) -> String {
     let count = uncover::places(store, cassette).count();
     let nearest = uncover::nearest(store, cassette).filter(|_| count > 1);
     let which = nearest.map_or(String::new(), |_| format!(", the nearest of {count}"));
-    format!("{:>5}: {answer}{which}\n", word(cassette))
-}
-
-/// A number as it was named, or the word for a blank.
-fn word(cassette: u16) -> String {
-    u8::try_from(cassette).map_or(cassette.to_string(), text::write_cassette)
+    format!("{:>5}: {answer}{which}\n", text::write_cassette(cassette))
 }
 
 /// What stands on a cassette, from the top down.
@@ -128,6 +123,29 @@ shaft       0      1      2
 ";
         assert_eq!(said.text, shown);
         assert_eq!(said.wrong.as_deref(), Some("4 of 7 orders fail"));
+    }
+
+    /// Four digits, with a star and without, stay in their columns.
+    #[test]
+    fn numbers_of_four_digits() {
+        let store = text::read("2x3: [255 4094 b] [1000 1]").unwrap();
+        let said = run(&store, &["4094", "1000", "255", "4093"]).unwrap();
+        let shown = format!(
+            "\
+row  3 |    b |      |
+row  2 |*4094 |    1 |
+row  1 | *255 |*1000 |
+       +------+------+
+shaft       0      1
+b is a blank, cassette number {BLANK}
+
+ 4094: 1 lift, of b
+ 1000: 17, no list of lifts uncovers it: 1 on it, and room for 0 on the other shafts
+  255: 17, no list of lifts uncovers it: 2 on it, and room for 1 on the other shafts
+ 4093: 16, it is not in the store
+"
+        );
+        assert_eq!(said.text, shown);
     }
 
     /// Only the nearest blank is marked, and what stands on it named.

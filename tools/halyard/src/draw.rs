@@ -67,6 +67,19 @@ shaft       0      1      2
         assert_eq!(super::store(&store, &[]), drawn.replace('*', " "));
     }
 
+    /// Numbers of one to four digits, with a star and without.
+    #[test]
+    fn wide_numbers() {
+        let store = text::read("3x2: [1000 4094] [255 7] [4093]").unwrap();
+        let drawn = "\
+row  2 | 4094 |    7 |      |
+row  1 | 1000 |  255 |*4093 |
+       +------+------+------+
+shaft       0      1      2
+";
+        assert_eq!(super::store(&store, &[(2, 1)]), drawn);
+    }
+
     /// Each shaft has slots up to its own depth, also between two deeper ones.
     #[test]
     fn shafts_of_unequal_depth() {

@@ -47,7 +47,7 @@ fn draw_lift(store: &Store, list: &[u8], done: usize, carried: Carried) -> Strin
 }
 
 /// A cassette in a sentence.
-fn named(cassette: u8) -> String {
+fn named(cassette: u16) -> String {
     match cassette {
         BLANK => "a blank".into(),
         _ => cassette.to_string(),
@@ -75,7 +75,7 @@ fn carries(end: &Replayed, list: &[u8]) -> String {
 }
 
 /// How often the cassettes of a number were carried.
-fn carries_line(end: &Replayed, cassette: u8) -> String {
+fn carries_line(end: &Replayed, cassette: u16) -> String {
     let times = end.carries[usize::from(cassette)];
     let word = text::write_cassette(cassette);
     match (cassette, end.store.blanks()) {
