@@ -245,7 +245,7 @@ impl Conversions {
     fn table(&self) -> String {
         format!(
             "\
-Conversions between every two forms that hold the starts above, into {MOST_IMAGE} bytes.
+Conversions of the starts of four rows above, between every two forms that hold them, into {MOST_IMAGE} bytes.
 
 | m × h | e | n | from form | to form | (a), µs | (b), µs | (a) / (b) |
 |---|--:|--:|--:|--:|--:|--:|--:|

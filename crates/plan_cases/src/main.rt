@@ -1,5 +1,5 @@
-// Plans cases of document 01, "Filled stores to try", that are not among the proved ones, some with blanks and some with unequal depths, and prints for each the
-// number, the count of lifts and whether a replay of the list ends at the goal. Held to the file stdout.
+// Plans cases of document 01, "Filled stores to try", that are not among the proved ones, some with blanks, some with unequal depths and some with numbers past 255, and prints for
+// each the number, the count of lifts and whether a replay of the list ends at the goal. Held to the file stdout.
 use check::same;
 use depths::equal;
 use libc::STDOUT_FILENO;
@@ -179,7 +179,7 @@ fn show(what: &[u8], start: Store, goal: Store, list: &mut [u8]) {
     );
 }
 
-// m 16, h 16 with 255 cassettes, each number once: shaft by shaft, counted from a number on.
+// m 16, h 16 with 255 cassettes, each number from 1 to 255 once: shaft by shaft, counted from a number on.
 fn nearly_full(from: usize) -> Store {
     let mut s = empty(16, 16);
     let mut i: usize = 0;
