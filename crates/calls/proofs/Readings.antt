@@ -6,7 +6,7 @@ use Rattle.store.specs.declared.Store.{Store}
 use Rattle.store.specs.Accept.{Accepted}
 use Rattle.image.specs.Reading.{readImage}
 use Rattle.image.proofs.Nexts.{accepted}
-use Rattle.image.proofs.RoundTrip.{read-image}
+use Rattle.image.proofs.RoundTrip.{ImageOf, read-image}
 use Rattle.calls.specs.declared.One.{One}
 use Rattle.calls.specs.declared.Both.{Both}
 use Rattle.calls.specs.Shared.{storeIn, readFault, goalAfter, OneIs, BothAre}
@@ -18,9 +18,13 @@ use Rattle.marks.proofs.Faulted.{first-none, first-stays}
 pub record Stands (a : List ℕ) (s : Store) : Type 0 where
   pub is : readImage a ≡ accepted s
 
+-- an accepted image is that of its store in the form that it names
+pub own-image : (a : List ℕ) → ((i : ℕ) → getD a i 0 < 256) → readFault a ≡ 0 → ImageOf a (storeIn a)
+own-image a small e = read-image a (storeIn a) small (λ i. record { store = storeIn a; number = e i })
+
 -- a store that an accepted image stands for is accepted as a value
 pub stood-accepted : (a : List ℕ) → ((i : ℕ) → getD a i 0 < 256) → readFault a ≡ 0 → Accepted (storeIn a)
-stood-accepted a small e = read-image a (storeIn a) small (λ i. record { store = storeIn a; number = e i }) .sound
+stood-accepted a small e = own-image a small e .sound
 
 pub one-read : (a : List ℕ) {s : Store} {k : ℕ} → s ≡ storeIn a → k ≡ readFault a → ((i : ℕ) → getD a i 0 < 256) → OneIs a (record { number = k; store = s })
 one-read a p e small = record { number = e; store = p; accepted = λ z. subst Accepted (sym p) (stood-accepted a small (sym e ∙ z)) }

@@ -1,28 +1,24 @@
 -- The answers of a conversion: a fault of the image, or what writing its store gave.
 use mathlib.Core.List.{List}
-use mathlib.Core.Path.{_≡_, refl, sym, ap₂, _∙_}
-use Prim.Native.Nat.{ℕ, zero, suc}
+use mathlib.Core.Path.{_≡_, sym, ap₂, _∙_}
+use Prim.Native.Nat.{ℕ}
 use native.Mathlib.Omega.{arith}
 use lib.ListN.{length}
 use Rattle.marks.proofs.Faulted.{first-stays, first-skips}
 use Rattle.store.specs.declared.Store.{Store}
 use Rattle.image.specs.declared.Written.{Written}
 use Rattle.image.specs.Numbers.{writeNumber}
-use Rattle.image.specs.Writing.{writeRefusal, bytesAfter, countAfter, WriteIs}
+use Rattle.image.specs.Writing.{writeRefusal, WriteIs}
+use Rattle.image.proofs.Refused.{none-written}
 use Rattle.calls.specs.Shared.{answerOf, RefusedCall, storeIn, readFault}
 use Rattle.convert_call.specs.ConvertCall.{convertFault, ConvertCallIs}
-
--- a refusal counts no byte and writes none
-nothing : (k f : ℕ) (s : Store) (came : List ℕ) → (k ≡ 0 → ⊥) → (k ≡ answerOf (countAfter k f s) k) × (came ≡ bytesAfter k f s came)
-nothing zero f s came n = absurd (n refl)
-nothing (suc k) f s came n = (omega arith, refl)
 
 module _ {a : List ℕ} {f : ℕ} {came out : List ℕ} where
   pub convert-refused : {k r : ℕ} → RefusedCall k came out r → k ≡ readFault a → (k ≡ 0 → ⊥) → ConvertCallIs a f came r out
   convert-refused {k} q e n =
       let z : convertFault a f (length came) ≡ k = first-stays (readFault a) (writeRefusal f (storeIn a) (length came)) (λ i. n (e ∙ i)) ∙ sym e in
-      let p = nothing k f (storeIn a) came n in
-      record { answer = rw z (q .number ∙ p .0); bytes = rw z (q .bytes ∙ p .1) }
+      let p = none-written k f (storeIn a) came n in
+      record { answer = rw z (omega (arith, q .number, p .0)); bytes = rw z (q .bytes ∙ p .1) }
 
   pub convert-answered : {s : Store} {w : Written} {n r : ℕ} → s ≡ storeIn a → readFault a ≡ 0 → WriteIs f s came out w → n ≡ writeNumber (w .answer) → r ≡ answerOf (w .count) n
       → ConvertCallIs a f came r out

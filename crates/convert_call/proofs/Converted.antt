@@ -1,30 +1,26 @@
 -- What a conversion gives: an image converted to its own form "gives its own bytes" (document 02, 8/13), and what was converted to another form and back too.
 use mathlib.Core.List.{List, _++_}
-use mathlib.Core.Path.{_≡_, sym, ap, ap₂, _∙_}
+use mathlib.Core.Path.{_≡_, ap, ap₂, _∙_}
 use Prim.Native.Nat.{ℕ, _≤_, _<_}
 use native.Mathlib.Omega.{arith}
 use lib.ListN.{length, getD, drop}
 use Rattle.marks.proofs.Faulted.{first-none, first-skips}
-use Rattle.image.specs.Image.{lengthIn, imageIn, formIn}
+use Rattle.image.specs.Image.{imageIn, formIn}
 use Rattle.image.specs.Reading.{readImage}
 use Rattle.image.specs.Writing.{bytesAfter, countAfter}
-use Rattle.image.proofs.Lengths.{length-written}
 use Rattle.image.proofs.Nexts.{accepted}
 use Rattle.image.proofs.Refused.{none-refuses, not-refused}
-use Rattle.image.proofs.RoundTrip.{ImageOf, image-read, image-form, read-image}
+use Rattle.image.proofs.RoundTrip.{image-read, image-form, own-length}
 use Rattle.calls.specs.Shared.{answerOf, storeIn, readFault}
+use Rattle.calls.proofs.Readings.{own-image}
 use Rattle.convert_call.specs.ConvertCall.{convertFault, ConvertCallIs}
-
--- an accepted image is that of its store in its own form
-pub own-image : (a : List ℕ) → ((i : ℕ) → getD a i 0 < 256) → readFault a ≡ 0 → ImageOf a (storeIn a)
-own-image a small e = read-image a (storeIn a) small (λ i. record { store = storeIn a; number = e i })
 
 module _ (a came : List ℕ) (small : (i : ℕ) → getD a i 0 < 256) (read : readFault a ≡ 0) where
   -- in its own form, with room for as many bytes
   pub converted-own : {out : List ℕ} {r : ℕ} → length a ≤ length came → ConvertCallIs a (formIn a) came r out → (r ≡ answerOf (length a) 0) × (out ≡ a ++ drop (length a) came)
   converted-own room p =
       let i = own-image a small read in
-      let n : lengthIn (formIn a) (storeIn a) ≡ length a = sym (length-written (formIn a) (storeIn a)) ∙ ap length (i .is) in
+      let n = own-length a (storeIn a) i in
       let z : convertFault a (formIn a) (length came) ≡ 0
       = first-skips (readFault a) _ read ∙ not-refused (formIn a) (storeIn a) came (i .sound) (i .known) (i .held) (omega arith) in (
         p .answer ∙ ap (λ (k : ℕ). answerOf (countAfter k (formIn a) (storeIn a)) k) z ∙ ap (λ (k : ℕ). answerOf k 0) n,

@@ -17,7 +17,7 @@ use Rattle.image.specs.Writing.{writeRefusal, WriteIs}
 use Rattle.image.proofs.Lengths.{length-written}
 use Rattle.image.proofs.Nexts.{accepted}
 use Rattle.image.proofs.Refused.{none-refuses, not-refused}
-use Rattle.image.proofs.RoundTrip.{image-read, read-image}
+use Rattle.image.proofs.RoundTrip.{image-read, read-image, own-length}
 
 module _ (f : ℕ) (s : Store) (out next : List ℕ) (w : Written) (p : WriteIs f s out next w) where
   -- the first bytes are the image
@@ -43,6 +43,5 @@ pub read-then-written : (bytes out next : List ℕ) (r : Read) (w : Written) →
 read-then-written bytes out next r w small q z room p =
     let g : readImage bytes ≡ accepted (r .store) = λ i. record { store = sym (q .store) i; number = (sym (q .answer .has) ∙ z) i } in
     let a = read-image bytes (r .store) small g in
-    let n : lengthIn (formIn bytes) (r .store) ≡ length bytes = sym (length-written (formIn bytes) (r .store)) ∙ ap length (a .is) in
-    let e : writeRefusal (formIn bytes) (r .store) (length out) ≡ 0 = not-refused (formIn bytes) (r .store) out (a .sound) (a .known) (a .held) (omega arith) in
+    let e : writeRefusal (formIn bytes) (r .store) (length out) ≡ 0 = not-refused (formIn bytes) (r .store) out (a .sound) (a .known) (a .held) (omega (arith, own-length bytes (r .store) a)) in
     (p .answer .has ∙ e, image-first (formIn bytes) (r .store) out next w p e ∙ a .is)

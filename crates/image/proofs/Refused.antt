@@ -2,8 +2,8 @@
 use borrow.Author.Tests.{le-ltb, lt-ltb, ltb-false}
 use mathlib.Core.Bool.{true, false}
 use mathlib.Core.List.{List}
-use mathlib.Core.Path.{_≡_, sym, _∙_}
-use Prim.Native.Nat.{ℕ, _≤_, _<_}
+use mathlib.Core.Path.{_≡_, refl, sym, _∙_}
+use Prim.Native.Nat.{ℕ, zero, suc, _≤_, _<_}
 use lib.ListN.{length}
 use Rattle.marks.proofs.Faulted.{first-none, first-stays, given-none, not-given}
 use Rattle.store.specs.declared.Store.{Store}
@@ -12,7 +12,7 @@ use Rattle.store.specs.Accept.{storeFault, Accepted}
 use Rattle.store.specs.Numbers.{faultNumber}
 use Rattle.store.proofs.Checks.{fault-one}
 use Rattle.image.specs.Image.{lastForm, formFault, lengthIn, holds}
-use Rattle.image.specs.Writing.{holdFault, writeRefusal}
+use Rattle.image.specs.Writing.{holdFault, writeRefusal, bytesAfter, countAfter}
 
 module _ (f : ℕ) (s : Store) (out : List ℕ) where
   pub store-refused : (e : Fault) → storeFault s ≡ faultNumber e → writeRefusal f s (length out) ≡ faultNumber e
@@ -57,3 +57,8 @@ none-refuses f s out e =
       held = not-given (holds f s) 17 (c .0);
       room = ltb-false (length out) (lengthIn f s) (given-none _ 9 (c .1));
     }
+
+-- a refusal counts no byte and writes none
+pub none-written : (k f : ℕ) (s : Store) (out : List ℕ) → (k ≡ 0 → ⊥) → (0 ≡ countAfter k f s) × (out ≡ bytesAfter k f s out)
+none-written zero f s out n = absurd (n refl)
+none-written (suc k) f s out n = (refl, refl)

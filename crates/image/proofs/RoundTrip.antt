@@ -34,6 +34,7 @@ use Rattle.image.proofs.Cut.{cut, cut-to, cut-all, low-zero, held-same}
 use Rattle.image.proofs.Nexts.{accepted, unless-accepted, next-reads, took, if-reads, took-if}
 use Rattle.image.proofs.Coding.{codable-number, zero-codable}
 use Rattle.image.proofs.Forms.{Holds, holds-test, width-some, width-narrow}
+use Rattle.image.proofs.Lengths.{length-written}
 use Rattle.image.proofs.ReadBack.{shafts-back}
 use Rattle.image.proofs.WriteBack.{Low, Settled, Shafts, shafts-read}
 
@@ -232,6 +233,10 @@ read-image bytes s small e =
       held = ap (λ (k : ℕ). holds k s) (sym e) ∙ says-so (holds f s) (holds-test f s) h;
       is = ap (λ (k : ℕ). imageIn k s) (sym e) ∙ is;
     }
+
+-- an image is as long as that of its store in the form that it names
+pub own-length : (bytes : List ℕ) (s : Store) → ImageOf bytes s → lengthIn (formIn bytes) s ≡ length bytes
+own-length bytes s i = sym (length-written (formIn bytes) s) ∙ ap length (i .is)
 
 -- the form that an image names is its form
 pub image-form : (f : ℕ) (s : Store) → f ≤ lastForm → formIn (imageIn f s) ≡ f

@@ -25,7 +25,7 @@ use Rattle.image.specs.Reading.{Reading}
 use Rattle.image.specs.Writing.{bytesAfter, WriteIs}
 use Rattle.image.proofs.Lengths.{length-written}
 use Rattle.image.proofs.Refused.{not-refused}
-use Rattle.image.proofs.RoundTrip.{read-image}
+use Rattle.image.proofs.RoundTrip.{read-image, own-length}
 use Rattle.calls.specs.Shared.{answerOf, RefusedCall, storeIn, readFault}
 use Rattle.replay_call.specs.ReplayCall.{replayCallFault, ReplayCallIs}
 use Rattle.replay_call.proofs.Kept.{leads-length, leads-held, replay-reaches}
@@ -43,7 +43,7 @@ image-written f s came out w e known held h p =
 reached-length : (a list : List ℕ) → ((i : ℕ) → getD a i 0 < 256) → {s : Store} → Stands a s → lengthIn (formIn a) (replay s list .reached) ≡ length a
 reached-length a list small {s} e =
     let i = read-image a s small (e .is) in
-    leads-length (accepted-shaped s (i .sound)) (replay-reaches s list (i .sound) .leads) (formIn a) ∙ sym (length-written (formIn a) s) ∙ ap length (i .is)
+    leads-length (accepted-shaped s (i .sound)) (replay-reaches s list (i .sound) .leads) (formIn a) ∙ own-length a s i
 
 pub replay-as-long : (a list : List ℕ) → ((i : ℕ) → getD a i 0 < 256) → readFault a ≡ 0 → length (imageIn (formIn a) (replay (storeIn a) list .reached)) ≡ length a
 replay-as-long a list small e =

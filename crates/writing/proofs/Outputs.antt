@@ -1,7 +1,7 @@
 -- Writing, as the code does it: what the lent bytes hold at the end.
 use mathlib.Core.List.{List, [], _++_}
-use mathlib.Core.Path.{_≡_, refl, sym, _∙_}
-use Prim.Native.Nat.{ℕ, zero, suc, _≤_, _<_}
+use mathlib.Core.Path.{_≡_, sym, _∙_}
+use Prim.Native.Nat.{ℕ, zero, _≤_, _<_}
 use native.Mathlib.Omega.{arith}
 use lib.ListN.{length, length-append, take-append-drop}
 use Rattle.pens.specs.declared.Pen.{Pen}
@@ -20,9 +20,9 @@ use Rattle.image.specs.declared.WriteAnswer.the-variants.{Whole}
 use Rattle.image.specs.declared.Written.{Written}
 use Rattle.image.specs.Image.{headBits, shaftsBits, imageBits, lengthIn, imageIn}
 use Rattle.image.specs.Numbers.{writeNumber}
-use Rattle.image.specs.Writing.{writeRefusal, bytesAfter, countAfter, RefusedWrite, WriteIs}
+use Rattle.image.specs.Writing.{writeRefusal, RefusedWrite, WriteIs}
 use Rattle.image.proofs.Answered.{only-write}
-use Rattle.image.proofs.Refused.{Writable, not-refused}
+use Rattle.image.proofs.Refused.{Writable, not-refused, none-written}
 use Rattle.image_parts.specs.Promises.{CanWriteBelow}
 
 -- what an accepted store says of its parts
@@ -35,11 +35,6 @@ module _ (s : Store) (e : Accepted s) where
 
   pub has-frame : (0 < s .m) × (0 < depth s 0) × (depth s 0 ≤ mostRows)
   has-frame = let p = accepted-sound s e in (p .some-shaft, p .some-row 0 (p .some-shaft), p .shaped .rows 0)
-
--- a refusal writes nothing
-none-written : (k f : ℕ) (s : Store) (out : List ℕ) → (k ≡ 0 → ⊥) → (0 ≡ countAfter k f s) × (out ≡ bytesAfter k f s out)
-none-written zero f s out n = absurd (n refl)
-none-written (suc k) f s out n = (refl, refl)
 
 -- a refusal with the number that is due
 pub refused-write : (f : ℕ) (s : Store) {out next : List ℕ} {r : Written} (a : WriteAnswer) → RefusedWrite a out next r → writeRefusal f s (length out) ≡ writeNumber a
