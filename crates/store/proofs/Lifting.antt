@@ -61,7 +61,7 @@ pub carried-store : (s : Store) (a b : ℕ) {heights slots : List ℕ} → heigh
 unfolding lifted
 carried-store s a b e f = λ i. record { m = s .m; depths = s .depths; heights = e i; slots = f i }
 
-when-some : (k : ℕ) (t s : Store) → (k ≡ 0 → ⊥) → s ≡ whenNone k t s
+pub when-some : (k : ℕ) (t s : Store) → (k ≡ 0 → ⊥) → s ≡ whenNone k t s
 when-some zero t s n = absurd (n refl)
 when-some (suc k) t s n = refl
 

@@ -1,0 +1,3 @@
+pub mod Comparing
+pub mod Following
+pub mod Numbered

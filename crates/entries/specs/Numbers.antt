@@ -1,0 +1,15 @@
+-- Document 02's number for each way in which an entry can't be true; 0 where it can.
+use Prim.Native.Nat.{ℕ}
+use Rattle.entries.specs.declared.Untrue.{Untrue}
+use Rattle.entries.specs.declared.Untrue.the-variants.{Malformed, ShaftEmpty, ShaftFull, WrongNumber}
+use Rattle.entries.specs.declared.Compared.{Compared}
+
+abbrev pub untrueNumber : Untrue → ℕ
+untrueNumber Malformed = 19
+untrueNumber ShaftEmpty = 13
+untrueNumber ShaftFull = 14
+untrueNumber WrongNumber = 20
+
+abbrev pub comparedNumber : Compared → ℕ
+comparedNumber Compared.Agrees = 0
+comparedNumber (Compared.Differs u) = untrueNumber u
