@@ -1,0 +1,6 @@
+pub mod Ends
+pub mod Following
+pub mod Replayed
+pub mod Runs
+pub mod Tracing
+pub mod Truth
