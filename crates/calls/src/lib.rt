@@ -3,6 +3,7 @@ use numbers::read_number;
 use reading::read;
 use store::Store;
 ghost use mathlib.Core.Path.{_≡_};
+ghost use Rattle.calls.specs.HandedBack.{LentIs};
 ghost use Rattle.calls.specs.Shared.{answerOf, RefusedCall, OneIs, BothAre};
 
 // The two parts of an answer put together.
@@ -35,6 +36,21 @@ pub fn read_one(image: &[u8]) -> One
         number: read_number(verdict),
         store,
     }
+}
+
+// An image read for a call that hands a store back in its form: 10 besides, where fewer bytes are lent than it has.
+pub fn read_lent(image: &[u8], lent: usize) -> One
+    ensures { λ r. ⌜ LentIs (now (image .entry)) lent r ⌝ }
+{
+    let one = read_one(image);
+    let store = one.store;
+    if one.number != 0 {
+        return one;
+    }
+    if lent < image.len() {
+        return One { number: 10, store };
+    }
+    one
 }
 
 // Two images that were read: the number of the first one that is refused, 0 for none, and their stores where none is.

@@ -56,6 +56,7 @@ module _ (m : ℕ) (e : Entry) where
     where
       not-past : (n v : ℕ) → (n < v → true ≡ malformed m e) → v ≤ n
       not-past n v g = elim (decLt n v) [ yes h ↦ absurd (true-false (g h ∙ f)) | no o ↦ omega arith ]
+
       below : (v : ℕ) → (m ≤ v → true ≡ malformed m e) → v < m
       below v g = elim (decLt v m) [ yes h ↦ h | no o ↦ absurd (true-false (g (omega arith) ∙ f)) ]
 

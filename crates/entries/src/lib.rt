@@ -157,7 +157,13 @@ fn compare(m: u8, depths: Depths, heights: &Heights, slots: &Slots, e: Entry) ->
 }
 
 // An entry followed in the heights and the slots of a store of m shafts with these depths: a lift that can be true is made in place.
-pub fn follow_entry(m: u8, depths: Depths, heights: &mut Heights, slots: &mut Slots, e: Entry) -> Compared
+pub fn follow_entry(
+    m: u8,
+    depths: Depths,
+    heights: &mut Heights,
+    slots: &mut Slots,
+    e: Entry,
+) -> Compared
     requires { ⌜ Shaped (held m depths (now heights) (now slots)) ⌝ }
     ensures { λ r. ⌜ EntryIs (held m depths (now (heights .entry)) (now (slots .entry))) e (held m depths (now (heights .exit)) (now (slots .exit))) r ⌝ }
 {

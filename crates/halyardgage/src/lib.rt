@@ -2,6 +2,7 @@
 // slices") and on a row of orders (document 02, 1/13); the header is include/halyardgage.h. Each returns count × 256 + number.
 use calls::read_one;
 use convert_call::call_convert;
+use follow_call::call_follow;
 use orders::Order;
 use orders::uncover;
 use pair_calls::call_plan;
@@ -10,6 +11,7 @@ use replay_call::call_replay;
 ghost use mathlib.Core.Path.{_≡_};
 ghost use Rattle.calls.specs.Shared.{readFault};
 ghost use Rattle.convert_call.specs.ConvertCall.{ConvertCallIs};
+ghost use Rattle.follow_call.specs.FollowCall.{FollowCallIs};
 ghost use Rattle.halyardgage.specs.UncoverCall.{UncoverCallIs};
 ghost use Rattle.pair_calls.specs.PairCalls.{ReachCallIs, PlanCallIs};
 ghost use Rattle.replay_call.specs.ReplayCall.{ReplayCallIs};
@@ -53,6 +55,14 @@ pub extern "C" fn halyard_replay(image: &[u8], list: &[u8], out: &mut [u8]) -> u
     ensures { λ r. ⌜ ReplayCallIs (now (image .entry)) (now (list .entry)) (now (out .entry)) r (now (out .exit)) ⌝ }
 {
     call_replay(image, list, out)
+}
+
+// Follows a log on a store and writes the store before the first entry that can't be true, or after the whole log, in the form of the image given; or writes nothing.
+#[no_mangle]
+pub extern "C" fn halyard_follow(image: &[u8], log: &[u8], out: &mut [u8]) -> u64
+    ensures { λ r. ⌜ FollowCallIs (now (image .entry)) (now (log .entry)) (now (out .entry)) r (now (out .exit)) ⌝ }
+{
+    call_follow(image, log, out)
 }
 
 // Answers a row of orders on the store of an image, or leaves the row as it came.

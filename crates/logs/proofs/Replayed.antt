@@ -43,7 +43,7 @@ lifts-replayed s (e ∷ es) p k q =
     let f = r .0 in
     let t = afterEntry s e in
     let first : replayFrom s (liftByte (e .shaft .0) (e .second .0) ∷ liftsOf es) ≡ oneMore (topOf s (e .shaft .0)) (replayFrom (lifted s (e .shaft .0) (e .second .0)) (liftsOf es))
-      = replay-first s (e .shaft .0) (e .second .0) (liftsOf es) (omega (arith, f .formed .second-below, p .shafts)) (allowed-none s (e .shaft .0) (e .second .0) (f .allowed z)) in
+    = replay-first s (e .shaft .0) (e .second .0) (liftsOf es) (omega (arith, f .formed .second-below, p .shafts)) (allowed-none s (e .shaft .0) (e .second .0) (f .allowed z)) in
     let rest : replayFrom t (liftsOf es) ≡ asReplay (followFrom t es) es = lifts-replayed t es (after-shaped s e p f) (λ i h. k (suc i) (omega arith)) (r .1) in
     rw (eq-eqb (e .kind) 0 z)
     (first

@@ -57,6 +57,7 @@ module _ (s : Store) (e : Entry) (es : List Entry) (p : Shaped s) where
       formed : (i : ℕ) → i < suc (length es) → Formed (s .m) (entryAt (e ∷ es) i)
       formed zero h = q .formed
       formed (suc i) h = subst (λ (m : ℕ). Formed m (entryAt es i)) (after-shafts s e) (r .formed i (omega arith))
+
       shown : (i : ℕ) (t : Store) → i < suc (length es) → Leads s (liftsOf (take i (e ∷ es))) t → entryAt (e ∷ es) i .number ≡ topOf t (entryAt (e ∷ es) i .shaft .0)
       shown zero t h l = q .number ∙ ap (λ (u : Store). topOf u (e .shaft .0)) (stays l)
       shown (suc i) t h l = r .shown i t (omega arith) (leads-after s e (take i es) (q .formed) (p .shafts) l .1)
@@ -66,12 +67,14 @@ module _ (s : Store) (e : Entry) (es : List Entry) (p : Shaped s) where
   first-true q =
       let w = q .formed 0 (omega arith) in
       let l = leads-after s e es w (p .shafts) (q .legal .leads) in
-      let f : True s e = record { formed = w; allowed = l .0; number = q .shown 0 s (omega arith) ended } in
-      (f, record {
-        formed = λ i h. subst (λ (m : ℕ). Formed m (entryAt es i)) (sym (after-shafts s e)) (q .formed (suc i) (omega arith));
-        legal = record { to = q .legal .to; leads = l .1 };
-        shown = λ i t h k. q .shown (suc i) t (omega arith) (after-leads s e (take i es) p f k);
-      })
+      let f : True s e = record { formed = w; allowed = l .0; number = q .shown 0 s (omega arith) ended } in (
+        f,
+        record {
+          formed = λ i h. subst (λ (m : ℕ). Formed m (entryAt es i)) (sym (after-shafts s e)) (q .formed (suc i) (omega arith));
+          legal = record { to = q .legal .to; leads = l .1 };
+          shown = λ i t h k. q .shown (suc i) t (omega arith) (after-leads s e (take i es) p f k);
+        },
+      )
 
 -- entries that are followed to their end are all true, and are followed to their end where they are
 pub followed-true : (s : Store) (es : List Entry) → Shaped s → followFrom s es .number ≡ 0 → TrueEntries s es

@@ -67,13 +67,7 @@ fn trace_entries(
 }
 
 // A log followed on an accepted store of m shafts with these depths, whose heights and slots are changed in place.
-pub fn trace(
-    m: u8,
-    depths: Depths,
-    heights: &mut Heights,
-    slots: &mut Slots,
-    log: &[u8],
-) -> Traced
+pub fn trace(m: u8, depths: Depths, heights: &mut Heights, slots: &mut Slots, log: &[u8]) -> Traced
     requires { ⌜ Accepted (held m depths (now heights) (now slots)) ⌝ }
     ensures { λ r. ⌜ TracedIs (follow (held m depths (now (heights .entry)) (now (slots .entry))) (now (log .entry))) (held m depths (now (heights .exit)) (now (slots .exit))) r ⌝ }
 {

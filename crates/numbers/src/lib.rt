@@ -1,8 +1,10 @@
 // The number of document 01, or of document 02, for each answer on one store, 0 where nothing is refused. The definitions
 // are in specs/Numbers.antt of the crate of each answer.
+use entries::Untrue;
 use image::ReadAnswer;
 use image::WriteAnswer;
 use lifts::Refusal;
+use logs::LogEnd;
 use replay::End;
 use store::Answer;
 use store::Fault;
@@ -11,6 +13,8 @@ ghost use mathlib.Core.Path.{_≡_};
 ghost use Rattle.lifts.specs.Numbers.{refusalNumber};
 ghost use Rattle.store.specs.Numbers.{faultNumber, verdictNumber, answerNumber};
 ghost use Rattle.replay.specs.Numbers.{endNumber};
+ghost use Rattle.entries.specs.Numbers.{untrueNumber};
+ghost use Rattle.logs.specs.Numbers.{logEndNumber};
 ghost use Rattle.image.specs.Numbers.{readNumber, writeNumber};
 
 pub fn refusal_number(r: Refusal) -> u8
@@ -60,6 +64,27 @@ pub fn end_number(e: End) -> u8
         End::RunThrough => 0,
         End::Stopped(r) => refusal_number(r),
         End::StoreRefused(f) => fault_number(f),
+    }
+}
+
+pub fn untrue_number(u: Untrue) -> u8
+    ensures { λ r. ⌜ r ≡ untrueNumber u ⌝ }
+{
+    match u {
+        Untrue::Malformed => 19,
+        Untrue::ShaftEmpty => 13,
+        Untrue::ShaftFull => 14,
+        Untrue::WrongNumber => 20,
+    }
+}
+
+pub fn log_end_number(e: LogEnd) -> u8
+    ensures { λ r. ⌜ r ≡ logEndNumber e ⌝ }
+{
+    match e {
+        LogEnd::AllTrue => 0,
+        LogEnd::Stopped(u) => untrue_number(u),
+        LogEnd::StoreRefused(f) => fault_number(f),
     }
 }
 

@@ -1,6 +1,6 @@
 // The C call that plays a list on the store of an image.
 use calls::answer;
-use calls::read_one;
+use calls::read_lent;
 use calls::refused;
 use fields::form_in;
 use numbers::end_number;
@@ -13,15 +13,12 @@ ghost use Rattle.replay_call.specs.ReplayCall.{ReplayCallIs};
 pub fn call_replay(image: &[u8], list: &[u8], out: &mut [u8]) -> u64
     ensures { λ r. ⌜ ReplayCallIs (now (image .entry)) (now (list .entry)) (now (out .entry)) r (now (out .exit)) ⌝ }
 {
-    let one = read_one(image);
+    let one = read_lent(image, out.len());
     let number = one.number;
     if number != 0 {
         return refused(number, out);
     }
     let s = one.store;
-    if out.len() < image.len() {
-        return refused(10, out);
-    }
     let depths = s.depths;
     let mut heights = s.heights;
     let mut slots = s.slots;

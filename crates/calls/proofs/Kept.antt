@@ -1,5 +1,4 @@
--- What a replay keeps, also a stopped one: lifts lead to the store that it reached, so that it is accepted, each form that holds the store given holds it too, and
--- its image in that form keeps its length.
+-- What lifts keep of the image of a store: each form that holds the store given holds the one that they lead to, and its image in that form keeps its length.
 use mathlib.Core.List.{List}
 use mathlib.Core.Bool.{true}
 use mathlib.Core.Path.{_≡_, sym, ap, _∙_}
@@ -12,14 +11,11 @@ use Rattle.lifts.specs.Lifting.{slotCount}
 use Rattle.lifts.specs.Bytes.{left, entered}
 use Rattle.depths.specs.Depths.{depthBy}
 use Rattle.store.specs.declared.Store.{Store}
-use Rattle.store.specs.Accept.{Accepted}
-use Rattle.store.specs.Lists.{Leads, Reachable}
+use Rattle.store.specs.Lists.{Leads}
 use Rattle.store.specs.Sound.{Shaped}
 use Rattle.store.specs.Slots.{SameFrame, depth}
 use Rattle.store.proofs.Played.{leads-frame}
 use Rattle.store.proofs.Views.{lifted-each}
-use Rattle.replay.specs.Replaying.{replay}
-use Rattle.replay.proofs.Replays.{replay-accepted, from-reaches}
 use Rattle.reach.proofs.Lasting.{leads-count}
 use Rattle.image.specs.Coding.{codable}
 use Rattle.image.specs.Image.{cassetteWidth, lengthIn, holds}
@@ -52,6 +48,3 @@ leads-held f {s} {t} p l e =
   where
     same-depth : SameFrame s t → (x : ℕ) → depth t x ≡ depth s x
     same-depth q x = ap (λ (d : List ℕ). depthBy d x) (sym (q .depths))
-
-pub replay-reaches : (s : Store) (bs : List ℕ) → Accepted s → Reachable s (replay s bs .reached)
-replay-reaches s bs e = rw (replay-accepted s bs e) (from-reaches s bs)
