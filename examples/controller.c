@@ -2,8 +2,8 @@
  * How a controller uses Halyardgage: check two images, ask whether the goal
  * can be reached, plan the lifts, and replay them. Then how deep some cassettes
  * are buried, a store with blanks, shafts of unequal depth, numbers past 255,
- * conversions from form to form, and some of the ways in which a call is
- * refused.
+ * conversions from form to form, what the changer's log says, and some of the
+ * ways in which a call is refused.
  *
  *     cc -Iinclude examples/controller.c -Ltarget/staticlib -lhalyardgage
  */
@@ -145,6 +145,8 @@ static const char *meaning(int number)
     case HALYARD_ABSENT: return "it is not in the store";
     case HALYARD_BURIED: return "no list of lifts uncovers it";
     case HALYARD_FORM_CANNOT_HOLD: return "the form can't hold the store";
+    case HALYARD_LOG_MALFORMED: return "the log's length or an entry is wrong";
+    case HALYARD_LOG_NUMBER: return "the store shows another number";
     default: return "a number that no call returns";
     }
 }
@@ -359,6 +361,52 @@ static int forms(void)
            memcmp(back.bytes, zero.bytes, zero.len) == 0;
 }
 
+/* Follows a log, and prints how far it is true and what stands there. The image
+ * is one of a store and there is room, so that a store is written, in as many
+ * bytes as the image has. Gives whether all of the log is true. */
+static int followed(const struct image *store, const uint8_t *log,
+                    size_t log_len)
+{
+    struct image there;
+    uint64_t answer = halyard_follow(store->bytes, store->len, log, log_len,
+                                     there.bytes, sizeof there.bytes);
+    int all_true = good("follow", answer, "every entry is true");
+    if (!all_true) {
+        printf("  at entry %" PRIu64 ", counted from 0\n",
+               halyard_count(answer));
+    }
+    there.len = store->len;
+    print_store(all_true ? "after it" : "there", &there);
+    return all_true;
+}
+
+/* What the changer reported, held against what the store should show: a log
+ * that is true, one with a sighting that can't be, and one cut off. In a log a
+ * blank has its number, whatever the form. Gives whether the first is true. */
+static int logs(void)
+{
+    static const uint16_t cassettes[] = {1, 2, 0, 255, 0, 3, 0};
+    struct image store = pack_even(3, 2, cassettes);
+    uint8_t log[4][HALYARD_ENTRY_BYTES];
+    int as_reported;
+
+    halyard_log_sighting(log[0], 0, 2);
+    halyard_log_lift(log[1], 0, 1, 2);
+    halyard_log_lift(log[2], 0, 2, 1);
+    halyard_log_sighting(log[3], 0, 0);
+    printf("\nA log of the changer that is true\n");
+    print_store("store", &store);
+    as_reported = followed(&store, log[0], sizeof log);
+
+    halyard_log_sighting(log[2], 1, HALYARD_BLANK);
+    printf("\nA log whose third entry sees a blank on top of shaft 1\n");
+    followed(&store, log[0], sizeof log);
+
+    printf("\nA log that was cut off within its last entry\n");
+    followed(&store, log[0], sizeof log - 1);
+    return as_reported;
+}
+
 /* Plans with nothing lent. */
 static void planned_into_nothing(const struct image *start,
                                  const struct image *goal)
@@ -422,6 +470,7 @@ int main(void)
     all_good &= depths();
     all_good &= numbers();
     all_good &= forms();
+    all_good &= logs();
     refusals(&start, &goal);
     return all_good ? 0 : 1;
 }

@@ -47,28 +47,49 @@
  * its own: a number, and a count of lifts. They come in a row. Any 16 bits may
  * be named: 255 is cassette 255, and HALYARD_BLANK is for a blank.
  *
+ * LOGS. A log is what the changer reported: entries, one after another, of
+ * HALYARD_ENTRY_BYTES bytes each. The fields of an entry are packed as those of
+ * an image: kind (4 bits), shaft (4), second shaft (4), number (12). There are
+ * two kinds:
+ *   - HALYARD_ENTRY_LIFT, 0: a lift from the shaft to the second shaft. The
+ *     number is the cassette carried;
+ *   - HALYARD_ENTRY_SIGHTING, 1: a look at the shaft. The number is its top
+ *     cassette, or 0 where the shaft is empty, and the second shaft is 0.
+ * Whatever the form of the image, in a log 255 is cassette 255, and a blank is
+ * HALYARD_BLANK. halyard_log_lift() and halyard_log_sighting() pack an entry.
+ * In hexadecimal 00 10 02 11 00 02 00 20 01 10 00 00 is a lift of 2 from shaft
+ * 0 to shaft 1, a sighting of 2 on top of shaft 1, a lift of 1 from shaft 0 to
+ * shaft 2, and a sighting of shaft 0 as empty. From [1 2] [] [3], three shafts
+ * of depth 2, all of it is true, and leaves [] [2] [3 1]. A sighting of a blank
+ * on top of shaft 2 is 12 0F FF.
+ *
  * ANSWERS. Each call returns count * 256 + number. halyard_number() and
  * halyard_count() take the two apart. The count has 56 bits: of a greater one
- * the low 56 bits are given, which only a replay of 2^56 lifts or more could
- * meet. The number is HALYARD_OK, or says why the call was refused or where a
- * replay stopped. If several reasons apply, the first one met is given:
+ * the low 56 bits are given, which only a replay of 2^56 lifts or more, or a
+ * log of as many entries, could meet. The number is HALYARD_OK, or says why the
+ * call was refused, why a replay stopped, or why an entry of a log can't be
+ * true. If several reasons apply, the first one met is given:
  *   - an image is read field by field, the start before the goal, and a fault
  *     of reading comes before any other;
  *   - for two stores then 8, 9, 15, 10;
  *   - for a replay then 10, before any lift is tried, and for each lift 11,
  *     13, 14;
+ *   - for a log then 10, then 19 for its length, both before any entry is
+ *     looked at, and for each entry 19, for a lift 13, 14, and last 20;
  *   - for a conversion then 1 for the form named, 18, 10;
  *   - for an order, in its own record, 16, 17. An order that fails does not
  *     make the call fail.
- * A refused call returns count 0 and writes nothing.
+ * A refused call returns count 0 and writes nothing. A replay that stops is no
+ * refused call, nor is a log with an entry that can't be true or one of a wrong
+ * length: each writes a store.
  *
  * WHAT THE CALLER OWES
  *   - Each pointer has at least as many bytes, or orders, as the length after
  *     it says. It may be NULL where that length is 0.
- *   - What a call may write (list of halyard_plan, out of halyard_replay and
- *     halyard_convert, orders of halyard_uncover) overlaps nothing else that is
- *     passed. Bytes that are only read may overlap: start and goal may be the
- *     same bytes.
+ *   - What a call may write (list of halyard_plan, out of halyard_replay,
+ *     halyard_follow and halyard_convert, orders of halyard_uncover) overlaps
+ *     nothing else that is passed. Bytes that are only read may overlap: start
+ *     and goal may be the same bytes, and so may image and log.
  *   - orders are aligned as C aligns struct halyard_order, and every field of
  *     every order has some value: whole orders are read and written, a cassette
  *     with the value it had. Which value stands where the answer goes does not
@@ -76,8 +97,8 @@
  *   - During the call no other thread writes to anything that is passed, nor
  *     reads what the call may write.
  * Lent bytes need not be cleared. Nothing else is asked: any bytes may be
- * passed as an image or as a list, and a call refuses what is none; any 8 bits
- * may be named as a form, and any 16 in an order.
+ * passed as an image, as a list or as a log, and a call says what is none; any
+ * 8 bits may be named as a form, and any 16 in an order.
  *
  * The library allocates nothing and keeps nothing between calls, so that any
  * thread may call it at any time.
@@ -96,8 +117,8 @@ extern "C" {
 
 /* The numbers. */
 enum {
-    HALYARD_OK = 0, /* accepted; yes; a list; run through; converted; an order
-                       answered */
+    HALYARD_OK = 0, /* accepted; yes; a list; run through; a log true
+                       throughout; converted; an order answered */
 
     /* refused because of the input */
     HALYARD_FORM = 1,              /* a form above 2, read or named for
@@ -130,8 +151,24 @@ enum {
 
     /* of an order, in its own record */
     HALYARD_ABSENT = 16, /* the cassette is not in the store, 0 included */
-    HALYARD_BURIED = 17  /* no list of lifts uncovers the cassette, nor, where a
+    HALYARD_BURIED = 17, /* no list of lifts uncovers the cassette, nor, where a
                             blank is named, any blank */
+
+    /* of a log, beside 13 and 14 of a lift in it */
+    HALYARD_LOG_MALFORMED = 19, /* a length that is no multiple of 3; or an
+                                   entry with a kind above 1, with a shaft not
+                                   below m, a sighting with a second shaft, or a
+                                   lift with one shaft twice */
+    HALYARD_LOG_NUMBER = 20     /* the number is not the one that the store
+                                   shows: of a lift, the cassette that would be
+                                   carried; of a sighting, the top cassette, or
+                                   0 for an empty shaft */
+};
+
+/* The kinds of an entry of a log. */
+enum {
+    HALYARD_ENTRY_LIFT = 0,
+    HALYARD_ENTRY_SIGHTING = 1
 };
 
 /* An order: the cassette that it names, and its answer. It has four bytes. */
@@ -143,6 +180,9 @@ struct halyard_order {
 
 /* The cassette number of a blank. */
 #define HALYARD_BLANK 4095
+
+/* The bytes of an entry of a log. */
+#define HALYARD_ENTRY_BYTES 3
 
 /* The bytes of an image in form 0, 1 or 2, of m shafts with n cassettes, blanks
  * included, and the most that an image has: 16 shafts of depth 16, full, in
@@ -190,6 +230,34 @@ static inline unsigned halyard_left(uint8_t lift)
 static inline unsigned halyard_entered(uint8_t lift)
 {
     return lift % 16u;
+}
+
+/* Packs an entry of a log. Of a field that has more bits than the entry has for
+ * it, the low ones are packed. */
+static inline void halyard_log_entry(uint8_t entry[HALYARD_ENTRY_BYTES],
+                                     unsigned kind, unsigned shaft,
+                                     unsigned second, unsigned number)
+{
+    entry[0] = (uint8_t)(kind % 16u * 16u + shaft % 16u);
+    entry[1] = (uint8_t)(second % 16u * 16u + number / 256u % 16u);
+    entry[2] = (uint8_t)(number % 256u);
+}
+
+/* Packs a lift of a cassette from one shaft to another. Shafts are below 16,
+ * and the cassette is at most 4,095. */
+static inline void halyard_log_lift(uint8_t entry[HALYARD_ENTRY_BYTES],
+                                    unsigned from, unsigned to,
+                                    uint16_t cassette)
+{
+    halyard_log_entry(entry, HALYARD_ENTRY_LIFT, from, to, cassette);
+}
+
+/* Packs a sighting of the cassette on top of a shaft, or, with 0, of an empty
+ * shaft. The shaft is below 16, and the cassette at most 4,095. */
+static inline void halyard_log_sighting(uint8_t entry[HALYARD_ENTRY_BYTES],
+                                        unsigned shaft, uint16_t top)
+{
+    halyard_log_entry(entry, HALYARD_ENTRY_SIGHTING, shaft, 0, top);
 }
 
 /*
@@ -249,6 +317,40 @@ uint64_t halyard_plan(const uint8_t *start, size_t start_len,
  */
 uint64_t halyard_replay(const uint8_t *image, size_t image_len,
                         const uint8_t *list, size_t list_len,
+                        uint8_t *out, size_t out_len);
+
+/*
+ * Follows the changer's log on a store, up to the first entry that can't be
+ * true, and writes the image of the store there.
+ *
+ * Reads image and log; log_len is a count of bytes. The store is written in the
+ * form of image, so that what is written has image_len bytes, and out_len must
+ * be at least image_len.
+ * Returns HALYARD_OK and the count of entries, log_len / 3, where every entry
+ * is true. What is written is then the store after the log.
+ * Where an entry can't be true, returns its number, and as the count its place,
+ * counted from 0. What is written is then the store before that entry. For each
+ * entry in this order:
+ *   - HALYARD_LOG_MALFORMED where its kind is above 1, where one of its shafts
+ *     is not below m, where it is a sighting and its second shaft is not 0, or
+ *     where it is a lift and its two shafts are the same;
+ *   - of a lift, HALYARD_SHAFT_EMPTY or HALYARD_SHAFT_FULL where it could not
+ *     be done;
+ *   - HALYARD_LOG_NUMBER where a lift would carry another cassette than the one
+ *     named, or where another is on top of the shaft sighted, or none, or one
+ *     where 0 is named.
+ * A log that gives HALYARD_OK has none of these: every lift in it is legal, and
+ * each number is the one that the store shows.
+ * Where log_len is no multiple of 3, no entry is looked at: returns
+ * HALYARD_LOG_MALFORMED and count 0. What is written is then the store as it
+ * came, the bytes of image.
+ * In all these cases the first image_len bytes of out are written, and the rest
+ * stay as they came.
+ * Otherwise it writes nothing and returns, with count 0, the first fault of
+ * reading, 1 to 5 or 7, or HALYARD_SPACE.
+ */
+uint64_t halyard_follow(const uint8_t *image, size_t image_len,
+                        const uint8_t *log, size_t log_len,
                         uint8_t *out, size_t out_len);
 
 /*
