@@ -1,4 +1,4 @@
-//! The six C calls, each on guarded bytes and orders.
+//! The seven C calls, each on guarded bytes and orders.
 
 use crate::guarded::{Guarded, Noise};
 use halyard_model::Random;
@@ -39,6 +39,14 @@ pub mod c {
             image_len: usize,
             list: *const u8,
             list_len: usize,
+            out: *mut u8,
+            out_len: usize,
+        ) -> u64;
+        pub fn halyard_follow(
+            image: *const u8,
+            image_len: usize,
+            log: *const u8,
+            log_len: usize,
             out: *mut u8,
             out_len: usize,
         ) -> u64;
@@ -289,6 +297,28 @@ impl Caller {
         };
         assert!(image.kept_but(0), "replay wrote to its image or beside it");
         assert!(list.kept_but(0), "replay wrote to its list or beside it");
+        Written {
+            answer: self.answer(bits, &image),
+            space: out,
+        }
+    }
+
+    pub fn follow(&mut self, image: &[u8], log: &[u8], out_len: usize) -> Written {
+        let (mut image, mut log) = (self.holding(image), self.holding(log));
+        let mut out = self.space(out_len);
+        // SAFETY: each pointer has as many bytes as are named, and no two of them overlap.
+        let bits = unsafe {
+            c::halyard_follow(
+                image.pointer(),
+                image.size(),
+                log.pointer(),
+                log.size(),
+                out.pointer(),
+                out.size(),
+            )
+        };
+        assert!(image.kept_but(0), "follow wrote to its image or beside it");
+        assert!(log.kept_but(0), "follow wrote to its log or beside it");
         Written {
             answer: self.answer(bits, &image),
             space: out,

@@ -2,7 +2,7 @@
 
 use crate::calls::{Answer, Caller, Order, Written};
 use crate::expected;
-use halyard_model::{Store, image, play, text};
+use halyard_model::{Store, image, log, log_text, play, text};
 
 /// Compares a check.
 pub fn check(caller: &mut Caller, bytes: &[u8]) {
@@ -68,6 +68,28 @@ pub fn replay(caller: &mut Caller, image: &[u8], list: &[u8], out_len: usize) {
     wrote(&written, answer, &bytes, &about);
 }
 
+/// Compares the following of a log.
+pub fn follow(caller: &mut Caller, image: &[u8], log: &[u8], out_len: usize) {
+    let (answer, bytes) = expected::follow(image, log, out_len);
+    follow_is(caller, image, log, out_len, (answer, &bytes));
+}
+
+/// Compares the following of a log with what it should answer and write.
+pub fn follow_is(
+    caller: &mut Caller,
+    image: &[u8],
+    log: &[u8],
+    out_len: usize,
+    (answer, bytes): (Answer, &[u8]),
+) {
+    let written = caller.follow(image, log, out_len);
+    let about = || {
+        let (log, image) = (show_log(log), show(image));
+        format!("following {log} into {out_len} bytes, {image}")
+    };
+    wrote(&written, answer, bytes, &about);
+}
+
 /// Compares a conversion.
 pub fn convert(caller: &mut Caller, image: &[u8], form: u8, out_len: usize) {
     let written = caller.convert(image, form, out_len);
@@ -112,6 +134,17 @@ fn show(bytes: &[u8]) -> String {
     match image::read(bytes) {
         Ok(store) => format!("{} in form {}", text::write(&store), bytes[0] >> 4),
         Err(number) => format!("{bytes:02x?}, which is {number}"),
+    }
+}
+
+/// A log's entries, or the bytes that are none, for a person.
+fn show_log(log: &[u8]) -> String {
+    match log::entries(log) {
+        Some(entries) => {
+            let words: Vec<String> = entries.into_iter().map(log_text::write).collect();
+            format!("[{}]", words.join("; "))
+        }
+        None => format!("{log:02x?}"),
     }
 }
 

@@ -1,7 +1,8 @@
 //! What documents 01 and 02 have the calls answer, worked out from the model.
 
 use crate::calls::{Answer, Order};
-use halyard_model::{Store, image, play, rule, uncover};
+use halyard_model::image::Form;
+use halyard_model::{Store, image, log, play, rule, uncover};
 
 /// The answer of a check.
 pub fn check(bytes: &[u8]) -> Answer {
@@ -30,15 +31,35 @@ pub fn reachable(start: &[u8], goal: &[u8]) -> u8 {
     }
 }
 
-/// What a replay answers and writes: nothing where it is refused, else the store reached in the form of the image given, which is as long wherever its
+/// A store whose lifts lead to another, which is written in the form of its image, and that form; or a fault of reading, or 10: an image is as long wherever
 /// lifts lead.
+fn written_over(image: &[u8], out_len: usize) -> Result<(Form, Store), u8> {
+    let (form, store) = (image::form_of(image)?, image::read(image)?);
+    if out_len < image.len() {
+        return Err(10);
+    }
+    Ok((form, store))
+}
+
+/// What a replay answers and writes: nothing where it is refused, else the store reached in the form of the image given.
 pub fn replay(image: &[u8], list: &[u8], out_len: usize) -> (Answer, Vec<u8>) {
-    let (form, store) = match (image::form_of(image), image::read(image)) {
-        (Err(number), _) | (_, Err(number)) => return (Answer::of(number, 0), Vec::new()),
-        (Ok(_), Ok(_)) if out_len < image.len() => return (Answer::of(10, 0), Vec::new()),
-        (Ok(form), Ok(store)) => (form, store),
+    let (form, store) = match written_over(image, out_len) {
+        Ok(both) => both,
+        Err(number) => return (Answer::of(number, 0), Vec::new()),
     };
     let end = play::replay(&store, list);
+    let written = image::write_in(&end.store, form);
+    (Answer::of(end.number, end.count), written)
+}
+
+/// What following a log answers and writes: nothing where it is refused, else the store after it, or before the first entry that can't be true, in the form of
+/// the image given.
+pub fn follow(image: &[u8], log: &[u8], out_len: usize) -> (Answer, Vec<u8>) {
+    let (form, store) = match written_over(image, out_len) {
+        Ok(both) => both,
+        Err(number) => return (Answer::of(number, 0), Vec::new()),
+    };
+    let end = log::follow(&store, log);
     let written = image::write_in(&end.store, form);
     (Answer::of(end.number, end.count), written)
 }

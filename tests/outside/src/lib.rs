@@ -6,4 +6,5 @@ pub mod every;
 pub mod expected;
 pub mod guarded;
 pub mod inputs;
+pub mod logs;
 pub mod rounds;

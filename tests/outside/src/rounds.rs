@@ -1,7 +1,7 @@
 //! Rounds of random comparisons. The tests do some with fixed seeds, the executable as many as it is told.
 
 use crate::calls::Caller;
-use crate::{checks, expected, inputs};
+use crate::{checks, expected, inputs, logs};
 use halyard_model::image::{self, Form};
 use halyard_model::{Random, Store, play};
 
@@ -34,6 +34,9 @@ pub fn damage(caller: &mut Caller, random: &mut Random) {
     checks::replay(caller, &bytes, &list, out_len);
     let form = inputs::form_named(random);
     checks::convert(caller, &bytes, form, out_len);
+    let log = logs::noise(random);
+    checks::follow(caller, &bytes, &log, out_len);
+    checks::follow(caller, &image, &log, image.len());
 }
 
 /// A list, legal or not, through the replay, into space that is short, enough or more.
@@ -43,6 +46,17 @@ pub fn replay(caller: &mut Caller, random: &mut Random) {
     let image = inputs::image(random, &store);
     let out_len = inputs::out_len(random, image.len());
     checks::replay(caller, &image, &list, out_len);
+}
+
+/// A log that is true, that is not, or of a wrong length, into space that is short, enough or more. What it gives is known by how it was made, and the model
+/// agrees.
+pub fn log(caller: &mut Caller, random: &mut Random) {
+    let store = inputs::store(random);
+    let made = logs::any(random, &store);
+    let image = inputs::image(random, &store);
+    logs::model_agrees(&image, &made);
+    let out_len = inputs::out_len(random, image.len());
+    checks::follow(caller, &image, &made.bytes, out_len);
 }
 
 /// A store to each form that there is, two that there are not and any, into space that is short, enough or more.
@@ -80,13 +94,17 @@ pub fn list_lengths(caller: &mut Caller, random: &mut Random) {
     }
 }
 
-/// A replay into space of each length around that of the image, by a list that is legal and by one that stops, and a conversion to each form into space of each
+/// A replay into space of each length around that of the image, by a list that is legal and by one that stops, a log that is true, one that is not and one of a
+/// wrong length, and a conversion to each form into space of each
 /// length around that of what is written.
 pub fn out_lengths(caller: &mut Caller, random: &mut Random) {
     let store = inputs::store(random);
     let image = inputs::image(random, &store);
     let legal = inputs::legal_list(random, &store, 9);
     let stopped = [&legal[..], &[play::lift_byte(0, 0)]].concat();
+    let log = logs::true_log(random, &store, 9).bytes;
+    let refused = [&log[..], &[0xFF; 3]].concat();
+    let logs = [&log[..], &refused, &refused[..refused.len() - 1]];
     let mut around = |length: usize| {
         let near = length.saturating_sub(3)..length + 4;
         near.chain([0, random.below(length)])
@@ -94,6 +112,9 @@ pub fn out_lengths(caller: &mut Caller, random: &mut Random) {
     for out_len in around(image.len()) {
         checks::replay(caller, &image, &legal, out_len);
         checks::replay(caller, &image, &stopped, out_len);
+        for log in &logs {
+            checks::follow(caller, &image, log, out_len);
+        }
     }
     for form in 0..4 {
         for out_len in around(length_in(&store, form).unwrap_or(image.len())) {
@@ -116,6 +137,7 @@ pub fn all(caller: &mut Caller, random: &mut Random) {
         pair(caller, random);
         damage(caller, random);
         replay(caller, random);
+        log(caller, random);
         convert(caller, random);
         orders(caller, random);
     }
