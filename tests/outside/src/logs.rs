@@ -247,10 +247,14 @@ pub fn of_wrong_length(random: &mut Random, start: &Store, log: &[u8]) -> Made {
     }
 }
 
-/// Any log for a store: true, with some fault, or of a wrong length.
+/// Any log for a store: true, with some fault, or of a wrong length. Empty shafts are rare, so that what asks for one is tried more often.
 pub fn any(random: &mut Random, start: &Store) -> Made {
     let count = *random.one_of(&[0, 1, 2, 3, 20, 60]);
-    let fault = *random.one_of(&Fault::ALL);
+    let fault = match random.below(4) {
+        0 => Fault::Empty,
+        1 => Fault::EmptyAsTop,
+        _ => *random.one_of(&Fault::ALL),
+    };
     let made = match random.below(4) {
         0 => None,
         _ => with_fault(random, start, count, fault),

@@ -18,7 +18,7 @@ pub fn pair(caller: &mut Caller, random: &mut Random) {
     checks::replay(caller, &start_image, list, start_image.len());
 }
 
-/// Damaged bytes through every call on bytes alone, in each place of an image. Rows of orders have a round of their own.
+/// Damaged bytes through every call on bytes alone, in each place of an image. Rows of orders and logs have rounds of their own.
 pub fn damage(caller: &mut Caller, random: &mut Random) {
     let (bytes, others) = (inputs::damaged(random), inputs::damaged(random));
     let store = inputs::store(random);
@@ -34,9 +34,6 @@ pub fn damage(caller: &mut Caller, random: &mut Random) {
     checks::replay(caller, &bytes, &list, out_len);
     let form = inputs::form_named(random);
     checks::convert(caller, &bytes, form, out_len);
-    let log = logs::noise(random);
-    checks::follow(caller, &bytes, &log, out_len);
-    checks::follow(caller, &image, &log, image.len());
 }
 
 /// A list, legal or not, through the replay, into space that is short, enough or more.
@@ -57,6 +54,17 @@ pub fn log(caller: &mut Caller, random: &mut Random) {
     logs::model_agrees(&image, &made);
     let out_len = inputs::out_len(random, image.len());
     checks::follow(caller, &image, &made.bytes, out_len);
+}
+
+/// Any bytes as a log, on damaged bytes into any space, and on a store.
+pub fn log_noise(caller: &mut Caller, random: &mut Random) {
+    let bytes = inputs::damaged(random);
+    let log = logs::noise(random);
+    let out_len = random.below(bytes.len() + 8);
+    checks::follow(caller, &bytes, &log, out_len);
+    let store = inputs::store(random);
+    let image = inputs::image(random, &store);
+    checks::follow(caller, &image, &log, image.len());
 }
 
 /// A store to each form that there is, two that there are not and any, into space that is short, enough or more.
@@ -138,6 +146,7 @@ pub fn all(caller: &mut Caller, random: &mut Random) {
         damage(caller, random);
         replay(caller, random);
         log(caller, random);
+        log_noise(caller, random);
         convert(caller, random);
         orders(caller, random);
     }
