@@ -1,14 +1,13 @@
 //! What the tool does for each of its commands.
 
-use crate::{depth, draw, played};
+use crate::files::{self, read_image, read_list, read_log_text, read_store, written};
+use crate::{depth, draw, followed, played};
 use halyard_model::store::BLANK;
 use halyard_model::{Store, image, text};
-use std::fs;
-use std::io::Read;
 
 /// What the tool says of itself, with `{BLANK}` for the number of a blank.
 const HELP: &str = "\
-halyard: stores as text and as images, and lists played for a person to see
+halyard: stores as text and as images, and lists played and logs followed for a person to see
 
   halyard image TEXT [FILE]        write the image of a store to FILE, or show its bytes in hexadecimal
   halyard image --form N TEXT [FILE]
@@ -20,6 +19,10 @@ halyard: stores as text and as images, and lists played for a person to see
   halyard play --end STORE LIST    draw a store only as the list leaves it, and count the carries
   halyard leads START GOAL LIST    say whether a list leads from start to goal
   halyard depth STORE CASSETTE…    draw a store, and say what is to be lifted away from each cassette
+  halyard log STORE LOG            follow a log of the changer: say what each entry says, up to the first
+                                   that can't be true, and draw the store there
+  halyard log --write ENTRIES [FILE]
+                                   write a log to FILE, or show its bytes in hexadecimal
 
 TEXT is such as '3x2: [1 2] [b] [3 b]': shafts, depth, the cassettes of each shaft bottom first.
 Where the depths are unequal each shaft has its own: '3x3,2,2: [1 2 3] [4] [5]'.
@@ -31,6 +34,9 @@ STORE, START and GOAL are an image file or TEXT. LIST is a file that has what th
 printed, or '-' for standard input; with --bytes it has a byte for each lift, as the C calls write it.
 The carries are how often each cassette of the store was carried, blanks together, up to a lift that
 is refused; they add up to the lifts done. Of blanks 'depth' takes the one that is uncovered soonest.
+LOG is a file with three bytes for each entry, as the C calls read it; ENTRIES is a file with a line for
+each, '0>1 17' for a lift of 17 from shaft 0 to shaft 1, '1 top 4' where 4 was seen on top of shaft 1,
+and '2 top 0' where shaft 2 was seen empty, or empty lines, and comments from a '#' on. Both may be '-'.
 
 This tool is a convenience outside what is proved. It shares no code with the proved library, and
 nothing proves what it says. It ends with status 1 where something is wrong or refused.
@@ -53,7 +59,8 @@ fn help() -> String {
     HELP.replace("{BLANK}", &BLANK.to_string())
 }
 
-fn not_understood() -> String {
+/// What to say where the words say nothing.
+pub fn not_understood() -> String {
     format!("not understood\n\n{}", help())
 }
 
@@ -68,6 +75,7 @@ pub fn run(words: &[&str]) -> Result<Said, String> {
     let known: &[&str] = match words.first() {
         Some(&"play") => &["--bytes", "--end"],
         Some(&"leads") => &["--bytes"],
+        Some(&"log") => &["--write"],
         _ => &[],
     };
     if options.iter().any(|option| !known.contains(option)) {
@@ -96,14 +104,13 @@ pub fn run(words: &[&str]) -> Result<Said, String> {
         ["depth", store, ref cassettes @ ..] if !cassettes.is_empty() => {
             depth::run(&read_store(store)?, cassettes)
         }
+        ["log", entries, ref file @ ..] if options.contains(&"--write") => {
+            Ok(written(&read_log_text(entries)?, file)?.into())
+        }
+        ["log", store, log] => Ok(followed::run(&read_store(store)?, &files::read(log)?)),
         [] | ["help"] => Ok(help().into()),
         _ => Err(not_understood()),
     }
-}
-
-fn hexadecimal(bytes: &[u8]) -> String {
-    let words: Vec<String> = bytes.iter().map(|byte| format!("{byte:02x}")).collect();
-    words.join(" ") + "\n"
 }
 
 /// The image of a store in the form that a word names, or why there is none.
@@ -123,50 +130,7 @@ fn image_in(store: &Store, word: &str) -> Result<Vec<u8>, String> {
     })
 }
 
-/// Writes bytes to the file named, or shows them where there is none.
-fn written(bytes: &[u8], file: &[&str]) -> Result<String, String> {
-    match file {
-        [] => Ok(hexadecimal(bytes)),
-        [file] => {
-            fs::write(file, bytes).map_err(|wrong| format!("{file}: {wrong}"))?;
-            Ok(format!("{file}: {} bytes\n", bytes.len()))
-        }
-        _ => Err(not_understood()),
-    }
-}
-
-fn read_file(file: &str) -> Result<Vec<u8>, String> {
-    fs::read(file).map_err(|wrong| format!("{file}: {wrong}"))
-}
-
-/// The store of an image file, or of a text, which has a bracket.
-fn read_store(word: &str) -> Result<Store, String> {
-    if word.contains('[') {
-        return text::read(word);
-    }
-    read_image(word)
-}
-
-fn read_image(file: &str) -> Result<Store, String> {
-    let refused = |number| format!("{file}: refused {number}, {}", meaning(number));
-    image::read(&read_file(file)?).map_err(refused)
-}
-
-fn read_list(file: &str, bytes: bool) -> Result<Vec<u8>, String> {
-    let mut content = Vec::new();
-    if file == "-" {
-        let read = std::io::stdin().read_to_end(&mut content);
-        read.map_err(|wrong| format!("standard input: {wrong}"))?;
-    } else {
-        content = read_file(file)?;
-    }
-    if bytes {
-        return Ok(content);
-    }
-    text::read_list(&String::from_utf8_lossy(&content))
-}
-
-/// What a number says of an image, of two stores, of a lift, of an order or of a form to be written.
+/// What a number says of an image, of two stores, of a lift, of an order, of a form to be written or of a log.
 pub fn meaning(number: u8) -> &'static str {
     match number {
         1 => "the form is above 2",
@@ -185,6 +149,8 @@ pub fn meaning(number: u8) -> &'static str {
             "the form can't hold the store: forms 0 and 1 no cassette from 255 to 4094, \
              form 0 no unequal depths"
         }
+        19 => "a log of a wrong length, or an entry that is none",
+        20 => "the number is not the one that the store shows",
         _ => "which nothing gets here",
     }
 }
@@ -192,26 +158,10 @@ pub fn meaning(number: u8) -> &'static str {
 #[cfg(test)]
 mod tests {
     use super::*;
+    use crate::files::scratch::Scratch;
+    use std::fs;
 
     const EXAMPLE: &str = "3x2: [1 2] [] [3]";
-
-    /// A file that is removed when the test ends.
-    struct Scratch(String);
-
-    impl Scratch {
-        fn holding(name: &str, content: &[u8]) -> Scratch {
-            let name = format!("halyard-{}-{name}", std::process::id());
-            let path = std::env::temp_dir().join(name);
-            fs::write(&path, content).unwrap();
-            Scratch(path.to_str().unwrap().to_string())
-        }
-    }
-
-    impl Drop for Scratch {
-        fn drop(&mut self) {
-            fs::remove_file(&self.0).unwrap();
-        }
-    }
 
     /// What the tool prints where nothing is wrong.
     fn prints(words: &[&str]) -> String {
@@ -515,6 +465,10 @@ mod tests {
             &["show", "--form", "1", EXAMPLE],
             &["convert", EXAMPLE],
             &["image", EXAMPLE, "one", "two"],
+            &["log", EXAMPLE],
+            &["log", "--write"],
+            &["log", "--bytes", EXAMPLE, "log"],
+            &["show", "--write", EXAMPLE],
         ];
         for words in unknown {
             assert!(run(words).is_err(), "{words:?}");
@@ -530,5 +484,45 @@ mod tests {
             "{shown}"
         );
         assert!(run(&["depth", EXAMPLE, "1", "one"]).is_err());
+    }
+
+    /// A log packed from text, followed on a store in a text and in an image.
+    #[test]
+    fn a_log_from_text_to_the_store() {
+        let text = b"# Monday\n0>1 2\n\n1 top 2 # seen\n2 top 3\n";
+        let entries = Scratch::holding("entries", text);
+        let bytes = "00 10 02 11 00 02 12 00 03\n";
+        assert_eq!(prints(&["log", "--write", &entries.0]), bytes);
+        let log = Scratch::holding("log", &[]);
+        let said = prints(&["log", "--write", &entries.0, &log.0]);
+        assert_eq!(said, format!("{}: 9 bytes\n", log.0));
+        assert_eq!(fs::read(&log.0).unwrap(), from_hexadecimal(bytes));
+        let shown = prints(&["log", EXAMPLE, &log.0]);
+        assert!(shown.starts_with("0>1 2        # 0: 2 from shaft 0 to shaft 1, row 1\n"));
+        let end = draw::store(&text::read("3x2: [1] [2] [3]").unwrap(), &[]);
+        assert!(shown.ends_with(&format!("\n\nafter 3 entries, all true\n{end}")));
+        let image = Scratch::holding("log-image", &from_hexadecimal(FORMS[2]));
+        assert_eq!(prints(&["log", &image.0, &log.0]), shown);
+    }
+
+    /// What is wrong with a log is said with the status of a failure, as is a text that is none.
+    #[test]
+    fn logs_that_are_wrong() {
+        let log = Scratch::holding("false", &[0x10, 0x00, 0x02, 0x10, 0x00, 0x01]);
+        let said = run(&["log", EXAMPLE, &log.0]).unwrap();
+        let wrong = "entry 1, counted from 0, of 2 can't be true: 20, \
+                     the number is not the one that the store shows";
+        assert_eq!(said.wrong.as_deref(), Some(wrong));
+        let cut = Scratch::holding("cut-log", &[0x10, 0x00]);
+        let said = run(&["log", EXAMPLE, &cut.0]).unwrap();
+        let wrong = "the log can't be followed: 19, a log of a wrong length, \
+                     or an entry that is none: 2 is no multiple of 3";
+        assert_eq!(said.wrong.as_deref(), Some(wrong));
+        let entries = Scratch::holding("no-entries", b"0>1 2\n0>1 two\n");
+        let wrong = run(&["log", "--write", &entries.0]).unwrap_err();
+        let end = ": line 2: not a number from 0 to 4095, nor b: two";
+        assert!(wrong.ends_with(end), "{wrong}");
+        assert!(run(&["log", EXAMPLE, "no such file"]).is_err());
+        assert!(run(&["log", "--write", &entries.0, "one", "two"]).is_err());
     }
 }

@@ -1,8 +1,10 @@
-//! Stores as text and as images, and lists played for a person to see.
+//! Stores as text and as images, and lists played and logs followed for a person to see.
 
 mod commands;
 mod depth;
 mod draw;
+mod files;
+mod followed;
 mod played;
 
 use std::io::Write;

@@ -47,7 +47,7 @@ fn draw_lift(store: &Store, list: &[u8], done: usize, carried: Carried) -> Strin
 }
 
 /// A cassette in a sentence.
-fn named(cassette: u16) -> String {
+pub fn named(cassette: u16) -> String {
     match cassette {
         BLANK => "a blank".into(),
         _ => cassette.to_string(),
