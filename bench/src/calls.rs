@@ -55,6 +55,22 @@ pub fn replay(case: &Case, list: &[u8], out: &mut [u8]) -> Answer {
     })
 }
 
+/// Follows a log on the start.
+pub fn follow(case: &Case, log: &[u8], out: &mut [u8]) -> Answer {
+    let image = &case.start_image;
+    // SAFETY: each pointer has as many bytes as are named, and `out` overlaps nothing.
+    Answer::from_bits(unsafe {
+        c::halyard_follow(
+            image.as_ptr(),
+            image.len(),
+            log.as_ptr(),
+            log.len(),
+            out.as_mut_ptr(),
+            out.len(),
+        )
+    })
+}
+
 /// Writes the store of an image in a form.
 pub fn convert(image: &[u8], form: u8, out: &mut [u8]) -> Answer {
     // SAFETY: each pointer has as many bytes as are named, and the two do not overlap.

@@ -4,6 +4,7 @@ use halyard_model::image;
 use halyard_model::store::{BLANK, MOST_ORDINARY};
 use halyard_model::{Random, Store};
 use halyard_outside::calls::Order;
+use halyard_outside::logs;
 use std::fmt::{self, Display};
 
 /// Which cassettes stand in a store.
@@ -149,6 +150,11 @@ fn some_of(random: &mut Random, mut numbers: Vec<u16>, count: usize) -> Vec<u16>
     random.shuffle(&mut numbers);
     numbers.truncate(count);
     numbers
+}
+
+/// A log of so many entries that are true from the start, lifts and sightings about as often as each other.
+pub fn log(random: &mut Random, case: &Case, entries: usize) -> Vec<u8> {
+    logs::true_log(random, &case.start, entries).bytes
 }
 
 /// An order for each of the 255 numbers that the cassettes of a shape are taken from, in random order.

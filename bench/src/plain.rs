@@ -4,7 +4,7 @@
 use crate::cases::Case;
 use crate::thesis::{self, Grid};
 use halyard_model::store::{BLANK, NUMBERS};
-use halyard_model::{Store, image, play, rule};
+use halyard_model::{Store, image, log, play, rule};
 use halyard_outside::calls::{Answer, Order};
 use halyard_outside::expected;
 
@@ -68,6 +68,36 @@ pub fn replay(case: &Case, list: &[u8], out: &mut [u8]) -> Answer {
             break;
         }
         count += 1;
+    }
+    let image = image::write_in(&store, form);
+    out[..image.len()].copy_from_slice(&image);
+    Answer::of(number, count)
+}
+
+/// Follows a log on the start.
+pub fn follow(case: &Case, log: &[u8], out: &mut [u8]) -> Answer {
+    let given = &case.start_image;
+    let (form, mut store) = match (image::form_of(given), image::read(given)) {
+        (Ok(form), Ok(store)) => (form, store),
+        (Err(number), _) | (_, Err(number)) => return Answer::of(number, 0),
+    };
+    if out.len() < given.len() {
+        return Answer::of(10, 0);
+    }
+    let (entries, rest) = log.as_chunks();
+    let (mut count, mut number) = (0, 0);
+    if rest.is_empty() {
+        for &bytes in entries {
+            let entry = log::unpack(bytes);
+            if let Some(fault) = log::fault(&store, entry) {
+                number = fault;
+                break;
+            }
+            log::apply(&mut store, entry);
+            count += 1;
+        }
+    } else {
+        number = 19;
     }
     let image = image::write_in(&store, form);
     out[..image.len()].copy_from_slice(&image);
@@ -173,7 +203,7 @@ mod tests {
     use super::*;
     use crate::calls;
     use halyard_model::Random;
-    use halyard_outside::inputs;
+    use halyard_outside::{inputs, logs};
 
     /// A pair of stores that may be no pair, often with an image that may be none.
     fn any_case(random: &mut Random) -> Case {
@@ -215,6 +245,24 @@ mod tests {
             assert_eq!(answer, calls::replay(&case, &list, &mut theirs));
             assert_eq!(ours, theirs);
         }
+    }
+
+    #[test]
+    fn follow_answers_and_writes_as_the_c_call() {
+        let mut random = Random::new(57);
+        let mut met = [0; 256];
+        for _ in 0..5_000 {
+            let case = any_case(&mut random);
+            let log = logs::any(&mut random, &case.start).bytes;
+            let mut ours = vec![7; random.below(3 * case.start_image.len() + 1)];
+            let mut theirs = ours.clone();
+            let answer = follow(&case, &log, &mut ours);
+            assert_eq!(answer, calls::follow(&case, &log, &mut theirs));
+            assert_eq!(ours, theirs);
+            met[usize::from(answer.number)] += 1;
+        }
+        let often = [0, 10, 13, 14, 19, 20].iter().all(|&it| met[it] > 20);
+        assert!(often, "{met:?}");
     }
 
     #[test]

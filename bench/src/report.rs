@@ -15,7 +15,10 @@ const SEARCHED: usize = 3;
 /// The most stack that a call may use, in bytes.
 const MOST_STACK: usize = 64 << 10;
 
-/// The five tables, and how they were made.
+/// How many entries a log has that is timed.
+const ENTRIES: usize = 1_000;
+
+/// The six tables, and how they were made.
 pub fn whole(seed: u64, stores: usize, rounds: usize) -> String {
     let mut random = Random::new(seed);
     let mut table = String::from(HEAD);
@@ -23,10 +26,12 @@ pub fn whole(seed: u64, stores: usize, rounds: usize) -> String {
     let mut stacks = Stacks::default();
     let mut orders = Orders::default();
     let mut conversions = Conversions::default();
+    let mut logs = Logs::default();
     for shape in cases::shapes() {
         let cases = cases::cases(&mut random, &shape, stores);
         let named = cases::orders(&mut Random::new(1), &shape);
-        stacks.add(&cases[0], &named);
+        let followed = logs_of(&cases);
+        stacks.add(&cases[0], &named, &followed[0]);
         let [calls, plain] = timing::in_rounds(&shape, &cases, rounds);
         row(&mut table, &shape, "(a)", &calls);
         row(&mut table, &shape, "(b)", &plain);
@@ -36,6 +41,7 @@ pub fn whole(seed: u64, stores: usize, rounds: usize) -> String {
         ratios.add(&shape, &calls, &plain);
         if shape.is_largest() {
             orders.add(&shape, &cases, &named, rounds);
+            logs.add(&shape, &cases, &followed, rounds);
             if shape.e == shape.deepest() {
                 conversions.add(&shape, &cases, rounds);
             }
@@ -43,8 +49,16 @@ pub fn whole(seed: u64, stores: usize, rounds: usize) -> String {
     }
     let notes = notes(seed, stores, rounds);
     let (ratios, orders) = (ratios.table(), orders.table());
-    let (conversions, stacks) = (conversions.table(), stacks.table());
-    format!("{notes}\n{table}\n{ratios}\n{orders}\n{conversions}\n{stacks}")
+    let (conversions, logs) = (conversions.table(), logs.table());
+    let stacks = stacks.table();
+    format!("{notes}\n{table}\n{ratios}\n{orders}\n{conversions}\n{logs}\n{stacks}")
+}
+
+/// A log for each case, from chance of their own, so that the cases do not change with them.
+fn logs_of(cases: &[Case]) -> Vec<Vec<u8>> {
+    let mut random = Random::new(1);
+    let log = |case| cases::log(&mut random, case, ENTRIES);
+    cases.iter().map(log).collect()
 }
 
 const HEAD: &str = "\
@@ -255,6 +269,42 @@ Conversions of the starts of four rows above, between every two forms that hold 
     }
 }
 
+/// The times for a whole log on the largest stores.
+#[derive(Default)]
+struct Logs {
+    rows: String,
+}
+
+impl Logs {
+    fn add(&mut self, shape: &Shape, cases: &[Case], logs: &[Vec<u8>], rounds: usize) {
+        let [calls, plain] = timing::logs(cases, logs, rounds);
+        let of_an_entry = |time: Option<f64>| decimals(time.map(|time| time / ENTRIES as f64));
+        self.rows += &format!(
+            "| {shape} | {} | {} | {} | {} | {} | {} | {} |\n",
+            shape.e,
+            shape.n(),
+            microseconds(calls),
+            microseconds(plain),
+            of_an_entry(calls),
+            of_an_entry(plain),
+            decimals(ratio(calls, plain)),
+        );
+    }
+
+    fn table(&self) -> String {
+        format!(
+            "\
+A log of {ENTRIES} entries in one call, all true, about half of them lifts and half sightings, on the starts above. The time of the
+whole log, and that time divided by the entries, in which reading the image and writing one have a part.
+
+| m × h | e | n | (a), µs | (b), µs | (a), ns for an entry | (b), ns for an entry | (a) / (b) |
+|---|--:|--:|--:|--:|--:|--:|--:|
+{}",
+            self.rows
+        )
+    }
+}
+
 /// The most stack that each call used, in bytes.
 #[derive(Default)]
 struct Stacks {
@@ -262,12 +312,13 @@ struct Stacks {
     reachable: usize,
     plan: usize,
     replay: usize,
+    follow: usize,
     convert: usize,
     uncover: usize,
 }
 
 impl Stacks {
-    fn add(&mut self, case: &Case, orders: &[Order]) {
+    fn add(&mut self, case: &Case, orders: &[Order], log: &[u8]) {
         let mut orders = orders.to_vec();
         let mut list = vec![0; LENT];
         let mut out = vec![0; MOST_IMAGE];
@@ -276,15 +327,17 @@ impl Stacks {
         let reachable = stack::used_by(|| _ = calls::reachable(case));
         let plan = stack::used_by(|| count = calls::plan(case, &mut list).count as usize);
         let replay = stack::used_by(|| _ = calls::replay(case, &list[..count], &mut out));
+        let follow = stack::used_by(|| _ = calls::follow(case, log, &mut out));
         let image = &case.start_image;
         let convert = stack::used_by(|| _ = calls::convert(image, 2, &mut out));
         let uncover = stack::used_by(|| _ = calls::uncover(case, &mut orders));
-        let all = [check, reachable, plan, replay, convert, uncover];
+        let all = [check, reachable, plan, replay, follow, convert, uncover];
         assert!(all.iter().all(|&used| used <= MOST_STACK), "{all:?} bytes");
         self.check = self.check.max(check);
         self.reachable = self.reachable.max(reachable);
         self.plan = self.plan.max(plan);
         self.replay = self.replay.max(replay);
+        self.follow = self.follow.max(follow);
         self.convert = self.convert.max(convert);
         self.uncover = self.uncover.max(uncover);
     }
@@ -301,10 +354,11 @@ shape above, found by running it on a stack of its own that was painted before.
 | halyard_reachable | {} |
 | halyard_plan | {} |
 | halyard_replay | {} |
+| halyard_follow | {} |
 | halyard_convert | {} |
 | halyard_uncover | {} |
 ",
-            self.check, self.reachable, self.plan, self.replay, self.convert, self.uncover
+            self.check, self.reachable, self.plan, self.replay, self.follow, self.convert, self.uncover
         )
     }
 }
@@ -320,9 +374,11 @@ mod tests {
         let mut stacks = Stacks::default();
         for shape in cases::shapes() {
             let cases = cases::cases(&mut random, &shape, 1);
-            stacks.add(&cases[0], &cases::orders(&mut random, &shape));
+            let orders = cases::orders(&mut random, &shape);
+            stacks.add(&cases[0], &orders, &logs_of(&cases)[0]);
         }
         assert!(stacks.table().contains("| halyard_convert | "));
-        assert!(stacks.convert > 0);
+        assert!(stacks.table().contains("| halyard_follow | "));
+        assert!(stacks.convert > 0 && stacks.follow > 0);
     }
 }

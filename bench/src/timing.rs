@@ -4,6 +4,7 @@ use crate::calls::{self, LENT};
 use crate::cases::{Case, Shape};
 use crate::plain;
 use halyard_model::image::{self, Form};
+use halyard_model::log::ENTRY_BYTES;
 use halyard_model::play;
 use halyard_model::search::Search;
 use halyard_outside::calls::{Answer, Order};
@@ -226,6 +227,34 @@ pub fn orders(cases: &[Case], row: &[Order], rounds: usize) -> [Option<f64>; 2] 
             let row = black_box(&mut row[..]);
             let cases = cases.iter().map(black_box).enumerate();
             cases.for_each(|(i, case)| clock.time(i, || way(case, row)));
+        }
+    }
+    clocks.map(Clock::mean_of_medians)
+}
+
+/// A way to follow a log on the start of a case.
+type Follow = fn(&Case, &[u8], &mut [u8]) -> Answer;
+
+/// A log on the start of each case, true throughout, by the C call and in plain Rust, in rounds that go through both. Nanoseconds for a log.
+pub fn logs(cases: &[Case], logs: &[Vec<u8>], rounds: usize) -> [Option<f64>; 2] {
+    let ways: [Follow; 2] = [calls::follow, plain::follow];
+    let mut clocks = ways.map(|_| Clock::new(cases.len()));
+    let mut outs = ways.map(|_| vec![0; MOST_IMAGE]);
+    for (case, log) in cases.iter().zip(logs) {
+        let answers: Vec<_> = (0..2)
+            .map(|by| ways[by](case, log, &mut outs[by]))
+            .collect();
+        assert_eq!(answers[0], answers[1]);
+        assert_eq!(answers[0], Answer::of(0, log.len() / ENTRY_BYTES));
+        assert_eq!(outs[0], outs[1]);
+    }
+    for _ in 0..rounds {
+        for ((way, clock), out) in ways.iter().zip(&mut clocks).zip(&mut outs) {
+            let out = black_box(&mut out[..]);
+            let cases = cases.iter().map(black_box).zip(black_box(logs));
+            for (i, (case, log)) in cases.enumerate() {
+                clock.time(i, || way(case, log, out));
+            }
         }
     }
     clocks.map(Clock::mean_of_medians)
