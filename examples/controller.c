@@ -361,6 +361,17 @@ static int forms(void)
            memcmp(back.bytes, zero.bytes, zero.len) == 0;
 }
 
+/* Prints the bytes of a log in hexadecimal. */
+static void print_log(const uint8_t *log, size_t log_len)
+{
+    size_t i;
+    printf("%-10s", "log");
+    for (i = 0; i < log_len; ++i) {
+        printf(" %02X", log[i]);
+    }
+    printf("\n");
+}
+
 /* Follows a log, and prints how far it is true and what stands there. The image
  * is one of a store and there is room, so that a store is written, in as many
  * bytes as the image has. Gives whether all of the log is true. */
@@ -370,7 +381,10 @@ static int followed(const struct image *store, const uint8_t *log,
     struct image there;
     uint64_t answer = halyard_follow(store->bytes, store->len, log, log_len,
                                      there.bytes, sizeof there.bytes);
-    int all_true = good("follow", answer, "every entry is true");
+    int all_true;
+
+    print_log(log, log_len);
+    all_true = good("follow", answer, "every entry is true");
     if (!all_true) {
         printf("  at entry %" PRIu64 ", counted from 0\n",
                halyard_count(answer));
@@ -381,17 +395,18 @@ static int followed(const struct image *store, const uint8_t *log,
 }
 
 /* What the changer reported, held against what the store should show: a log
- * that is true, one with a sighting that can't be, and one cut off. In a log a
- * blank has its number, whatever the form. Gives whether the first is true. */
+ * that is true, one with a sighting that can't be, and one cut off. Gives
+ * whether the first is true. */
 static int logs(void)
 {
-    static const uint16_t cassettes[] = {1, 2, 0, 255, 0, 3, 0};
-    struct image store = pack_even(3, 2, cassettes);
+    static const uint8_t even[] = {2, 2, 2};
+    static const uint16_t cassettes[] = {1, 300, 0, HALYARD_BLANK, 0, 3, 0};
+    struct image store = pack(2, 3, even, cassettes);
     uint8_t log[4][HALYARD_ENTRY_BYTES];
     int as_reported;
 
-    halyard_log_sighting(log[0], 0, 2);
-    halyard_log_lift(log[1], 0, 1, 2);
+    halyard_log_sighting(log[0], 1, HALYARD_BLANK);
+    halyard_log_lift(log[1], 0, 1, 300);
     halyard_log_lift(log[2], 0, 2, 1);
     halyard_log_sighting(log[3], 0, 0);
     printf("\nA log of the changer that is true\n");
@@ -399,7 +414,7 @@ static int logs(void)
     as_reported = followed(&store, log[0], sizeof log);
 
     halyard_log_sighting(log[2], 1, HALYARD_BLANK);
-    printf("\nA log whose third entry sees a blank on top of shaft 1\n");
+    printf("\nA log whose third entry still sees the blank on shaft 1\n");
     followed(&store, log[0], sizeof log);
 
     printf("\nA log that was cut off within its last entry\n");

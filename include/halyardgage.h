@@ -97,8 +97,8 @@
  *   - During the call no other thread writes to anything that is passed, nor
  *     reads what the call may write.
  * Lent bytes need not be cleared. Nothing else is asked: any bytes may be
- * passed as an image, as a list or as a log, and a call says what is none; any
- * 8 bits may be named as a form, and any 16 in an order.
+ * passed as an image, as a list or as a log, and the answer tells what is none;
+ * any 8 bits may be named as a form, and any 16 in an order.
  *
  * The library allocates nothing and keeps nothing between calls, so that any
  * thread may call it at any time.
@@ -336,9 +336,9 @@ uint64_t halyard_replay(const uint8_t *image, size_t image_len,
  *     where it is a lift and its two shafts are the same;
  *   - of a lift, HALYARD_SHAFT_EMPTY or HALYARD_SHAFT_FULL where it could not
  *     be done;
- *   - HALYARD_LOG_NUMBER where a lift would carry another cassette than the one
- *     named, or where another is on top of the shaft sighted, or none, or one
- *     where 0 is named.
+ *   - HALYARD_LOG_NUMBER where its number is not the one that the store shows:
+ *     of a lift, the cassette that it would carry; of a sighting, the top
+ *     cassette of the shaft, or 0 where it is empty.
  * A log that gives HALYARD_OK has none of these: every lift in it is legal, and
  * each number is the one that the store shows.
  * Where log_len is no multiple of 3, no entry is looked at: returns

@@ -99,7 +99,8 @@ impl Fault {
             }
             Fault::Top => {
                 let shaft = one_like(random, store, |store, it| !is_empty(store, it))?;
-                Entry::sighting(shaft, other_number(random, store, shaft).max(1))
+                let number = other_number(random, store, shaft);
+                Entry::sighting(shaft, Some(number).filter(|&it| it != 0)?)
             }
             Fault::TopAsEmpty => {
                 let shaft = one_like(random, store, |store, it| !is_empty(store, it))?;
@@ -110,9 +111,7 @@ impl Fault {
                 Entry::sighting(shaft, other_number(random, store, shaft))
             }
         };
-        // A number that was made 1 may be the one shown.
-        let shown = self == Fault::Top && entry.number == log::shown(store, entry.first());
-        (!shown).then_some(entry)
+        Some(entry)
     }
 }
 

@@ -389,7 +389,7 @@ fn long_logs() {
         for count in [85, 255, 256, 257, 21_846, 65_535, 65_536, 100_000] {
             let made = logs::true_log(&mut random, &store, count);
             as_made(&mut caller, &image, &made);
-            let fault = *random.one_of(&[Fault::Kind, Fault::Top, Fault::Carried]);
+            let fault = *random.one_of(&[Fault::Kind, Fault::TopAsEmpty, Fault::Carried]);
             let made = logs::with_fault(&mut random, &store, count, fault).unwrap();
             as_made(&mut caller, &image, &made);
             let wrong = logs::of_wrong_length(&mut random, &store, &made.bytes);
