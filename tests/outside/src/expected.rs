@@ -31,8 +31,8 @@ pub fn reachable(start: &[u8], goal: &[u8]) -> u8 {
     }
 }
 
-/// A store whose lifts lead to another, which is written in the form of its image, and that form; or a fault of reading, or 10: an image is as long wherever
-/// lifts lead.
+/// The form and the store of an image, where there is room for another store to be written in its place: wherever lifts lead, the image is as long. Or the first
+/// fault of reading, or 10.
 fn written_over(image: &[u8], out_len: usize) -> Result<(Form, Store), u8> {
     let (form, store) = (image::form_of(image)?, image::read(image)?);
     if out_len < image.len() {

@@ -34,9 +34,10 @@ STORE, START and GOAL are an image file or TEXT. LIST is a file that has what th
 printed, or '-' for standard input; with --bytes it has a byte for each lift, as the C calls write it.
 The carries are how often each cassette of the store was carried, blanks together, up to a lift that
 is refused; they add up to the lifts done. Of blanks 'depth' takes the one that is uncovered soonest.
-LOG is a file with three bytes for each entry, as the C calls read it; ENTRIES is a file with a line for
-each, '0>1 17' for a lift of 17 from shaft 0 to shaft 1, '1 top 4' where 4 was seen on top of shaft 1,
-and '2 top 0' where shaft 2 was seen empty, or empty lines, and comments from a '#' on. Both may be '-'.
+LOG is a file with three bytes for each entry, as the C call reads it. ENTRIES is a file with a line for
+each: '0>1 17' is a lift of 17 from shaft 0 to shaft 1, '1 top 4' says that 4 was seen on top of shaft 1,
+and '2 top 0' that shaft 2 was seen empty; b is a blank here too, what follows a '#' is a comment, and
+empty lines say nothing. Either may be '-' for standard input.
 
 This tool is a convenience outside what is proved. It shares no code with the proved library, and
 nothing proves what it says. It ends with status 1 where something is wrong or refused.
