@@ -1,26 +1,23 @@
 -- How an entry followed in place is answered: nothing is changed by one that can't be true, and the other leaves the store after it.
 use mathlib.Core.Path.{_≡_, sym, ap, _∙_}
 use Prim.Native.Nat.{ℕ}
+use Rattle.lifts.specs.Numbers.{Only}
 use Rattle.store.specs.declared.Store.{Store}
 use Rattle.store.specs.Lifts.{whenNone}
 use Rattle.store.proofs.Lifting.{when-some}
 use Rattle.entries.specs.declared.Compared.{Compared}
 use Rattle.entries.specs.declared.Entry.{Entry}
-use Rattle.entries.specs.declared.Untrue.{Untrue}
 use Rattle.entries.specs.Entries.{entryFault, afterEntry}
-use Rattle.entries.specs.Numbers.{untrueNumber}
+use Rattle.entries.specs.Numbers.{comparedNumber}
 use Rattle.entries.specs.Promises.{EntryIs}
-use Rattle.entries.proofs.Numbered.{only-compared, untrue-one}
 
 module _ (s : Store) (e : Entry) where
-  pub entry-stays : (u : Untrue) → untrueNumber u ≡ entryFault s e → EntryIs s e s (Compared.Differs u)
-  entry-stays u f = record {
-    compared = only-compared f;
-    store = when-some (entryFault s e) (afterEntry s e) s (λ z. untrue-one u (f ∙ z));
-  }
+  module _ {r : Compared} (c : Only comparedNumber (entryFault s e) r) where
+    pub entry-stays : (entryFault s e ≡ 0 → ⊥) → EntryIs s e s r
+    entry-stays n = record { compared = c; store = when-some (entryFault s e) (afterEntry s e) s n }
 
-  pub entry-goes : {t : Store} → entryFault s e ≡ 0 → t ≡ afterEntry s e → EntryIs s e t Compared.Agrees
-  entry-goes z f = record { compared = only-compared (sym z); store = f ∙ ap (λ (k : ℕ). whenNone k (afterEntry s e) s) (sym z) }
+    pub entry-goes : {t : Store} → entryFault s e ≡ 0 → t ≡ afterEntry s e → EntryIs s e t r
+    entry-goes z f = record { compared = c; store = f ∙ ap (λ (k : ℕ). whenNone k (afterEntry s e) s) (sym z) }
 
   module _ {t : Store} {r : Compared} (q : EntryIs s e t r) where
     pub entry-left : (entryFault s e ≡ 0 → ⊥) → t ≡ s

@@ -17,6 +17,7 @@ use marks::Cassette;
 ghost use mathlib.Core.Bool.{false};
 ghost use mathlib.Core.Path.{_≡_};
 ghost use Prim.Native.Nat.{_+_, _*_, _≤_, _<_};
+ghost use lib.Dec.{eqb};
 ghost use lib.ListN.{length, drop};
 ghost use Rattle.bits.specs.Fields.{field, bitsOf};
 ghost use Rattle.lifts.specs.Lifting.{mostShafts, mostRows, heightIn, shown};
@@ -126,17 +127,17 @@ fn judge_entry(m: u8, depths: Depths, heights: &Heights, e: Entry) -> Compared
     }
 }
 
-// The cassette on top of a shaft, 0 for an empty one.
-fn top_of(heights: &Heights, slots: &Slots, x: Shaft) -> Cassette
+// Whether a number is what the store shows on top of a shaft: 0 for an empty one.
+fn shows(heights: &Heights, slots: &Slots, x: Shaft, number: Cassette) -> bool
     requires { ⌜ (x .0 < mostShafts) × (heightIn (now heights) (x .0) ≤ mostRows) ⌝ }
-    ensures { λ r. ⌜ r ≡ shown (now (slots .entry)) (x .0) (heightIn (now (heights .entry)) (x .0)) ⌝ }
+    ensures { λ r. ⌜ r ≡ eqb number (shown (now (slots .entry)) (x .0) (heightIn (now (heights .entry)) (x .0))) ⌝ }
 {
     let i = x.0 as usize;
     let rows = height_at(heights, i) as usize;
     if rows == 0 {
-        return 0;
+        return number == 0;
     }
-    slot_at(slots, 16 * i + (rows - 1))
+    number == slot_at(slots, 16 * i + (rows - 1))
 }
 
 // Whether an entry can be true of a store, or else why not.
@@ -150,7 +151,7 @@ fn compare(m: u8, depths: Depths, heights: &Heights, slots: &Slots, e: Entry) ->
     if let Compared::Differs(u) = judge_entry(m, depths, heights, e) {
         return Compared::Differs(u);
     }
-    if e.number != top_of(heights, slots, e.shaft) {
+    if !shows(heights, slots, e.shaft, e.number) {
         return Compared::Differs(Untrue::WrongNumber);
     }
     Compared::Agrees
@@ -167,11 +168,12 @@ pub fn follow_entry(
     requires { ⌜ Shaped (held m depths (now heights) (now slots)) ⌝ }
     ensures { λ r. ⌜ EntryIs (held m depths (now (heights .entry)) (now (slots .entry))) e (held m depths (now (heights .exit)) (now (slots .exit))) r ⌝ }
 {
-    if let Compared::Differs(u) = compare(m, depths, heights, slots, e) {
-        return Compared::Differs(u);
+    let found = compare(m, depths, heights, slots, e);
+    if let Compared::Differs(_) = found {
+        return found;
     }
     if e.kind == 0 {
         carry(heights, slots, e.shaft, e.second);
     }
-    Compared::Agrees
+    found
 }

@@ -1,5 +1,6 @@
 -- `compare` meets its contract: 19, then 13 and 14, then 20.
 use borrow.Author.Needs.{needs}
+use borrow.Author.Tests.{eqb-true, eqb-false, not-true, not-false}
 use mathlib.Core.Bool.{false}
 use mathlib.Core.Path.{_≡_, sym, ap, _∙_}
 use native.Mathlib.Omega.{arith}
@@ -36,8 +37,8 @@ returns-2 c =
 abbrev came : (c : tie.Else1) → Store
 came c = let a = c .before .before .args in held (a .m) (a .depths) (a .heights .now) (a .slots .now)
 
-top-of-requires : tie.Need-top-of-requires
-top-of-requires c κs =
+shows-requires : tie.Need-shows-requires
+shows-requires c κs =
     let w = c .before .before .before in
     let e = w .before .before .args .e in
     let p = w .before .before .pre in
@@ -50,17 +51,17 @@ free c = sym (ap comparedNumber (c .enum-told .given .1)) ∙ c .before .before 
 
 returns-3 : tie.Need-returns-3
 returns-3 c =
-    let t = c .before .before in
+    let t = c .before in
     let w = t .before .before .before .before in
-    only-compared (sym (fault-number (came w) _ (well w) (sym (free (t .before))) (λ z. c .if2 .taken (z ∙ sym (t .top-of .ensures)))))
+    only-compared (sym (fault-number (came w) _ (well w) (sym (free (t .before))) (eqb-false _ _ (sym (t .shows .ensures) ∙ not-true _ (c .if2 .taken)))))
 
 returns-4 : tie.Need-returns-4
 returns-4 c =
-    let t = c .before .before in
+    let t = c .before in
     let w = t .before .before .before .before in
-    only-compared (sym (fault-none (came w) _ (well w) (sym (free (t .before))) (c .if2 .left ∙ t .top-of .ensures)))
+    only-compared (sym (fault-none (came w) _ (well w) (sym (free (t .before))) (eqb-true _ _ (sym (t .shows .ensures) ∙ not-false _ (c .if2 .left)))))
 
 pub compare-spec : {M : Type 1} → statement M
 compare-spec =
     tie.close
-    (tie.spec (λ c κs. search needs) returns judge-entry-requires (λ c. search needs) returns-2 (λ c. search needs) top-of-requires returns-3 returns-4)
+    (tie.spec (λ c κs. search needs) returns judge-entry-requires (λ c. search needs) returns-2 (λ c. search needs) shows-requires returns-3 returns-4)
