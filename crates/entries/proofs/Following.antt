@@ -25,3 +25,7 @@ module _ (s : Store) (e : Entry) where
 
     pub entry-done : entryFault s e ≡ 0 → t ≡ afterEntry s e
     entry-done z = q .store ∙ ap (λ (k : ℕ). whenNone k (afterEntry s e) s) z
+
+  -- one answer alone keeps the promise
+  pub entry-exact : {t u : Store} {x y : Compared} → EntryIs s e t x → EntryIs s e u y → (t ≡ u) × (x ≡ y)
+  entry-exact {t} {u} {x} p q = (p .store ∙ sym (q .store), q .compared .alone x (p .compared .has))

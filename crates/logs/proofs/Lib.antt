@@ -1,4 +1,5 @@
 pub mod Ends
+pub mod Exact
 pub mod Following
 pub mod Replayed
 pub mod Runs
