@@ -26,9 +26,11 @@ use Rattle.reach.specs.Rules.{twoShaftReading, floor}
 use Rattle.reach.specs.Tests.{ruleTest}
 use Rattle.reach.proofs.RuleTests.{list-test, store-test, reachable-test}
 use Rattle.reach.proofs.Sets.{comparable}
-use Rattle.cases.specs.Claims.{Claim, liftGets, yesBy, unreachable, pairGets, spaceIs, readingGets, imageIs, writingGets, lengthIs, ClaimHolds, AllHold}
+use Rattle.entries.specs.Entries.{entryIn, malformed, entryFault, afterEntry}
+use Rattle.logs.specs.Following.{Following, entriesOf, followFrom, follow}
+use Rattle.cases.specs.Claims.{Claim, liftGets, yesBy, unreachable, pairGets, spaceIs, readingGets, imageIs, writingGets, lengthIs, logGets, ClaimHolds, AllHold}
 use Rattle.cases.specs.Table.{table}
-use Rattle.cases.specs.Tests.{readAlike, tested, allTested}
+use Rattle.cases.specs.Tests.{readAlike, followAlike, tested, allTested}
 
 read-alike : (o q : Reading) → readAlike o q ≡ true → o ≡ q
 read-alike o q e =
@@ -36,6 +38,15 @@ read-alike o q e =
     let n = eqb-true (o .number) (q .number) (p .0) in
     let s = store-test (o .store) (q .store) .so (p .1) in
     λ i. record { store = s i; number = n i }
+
+follow-alike : (o q : Following) → followAlike o q ≡ true → o ≡ q
+follow-alike o q e =
+    let p = both-true (eqb (o .entry) (q .entry)) _ e in
+    let r = both-true (eqb (o .number) (q .number)) _ (p .1) in
+    let i = eqb-true (o .entry) (q .entry) (p .0) in
+    let n = eqb-true (o .number) (q .number) (r .0) in
+    let s = store-test (o .reached) (q .reached) .so (r .1) in
+    λ j. record { reached = s j; entry = i j; number = n j }
 
 -- a claim that passes its test holds
 claim-holds : (c : Claim) → tested c ≡ true → ClaimHolds c
@@ -59,6 +70,7 @@ claim-holds (imageIs f bytes s) e =
     (read-alike _ _ (p .0), list-test (imageIn f s) bytes .so (p .1))
 claim-holds (writingGets f s room k) e = eqb-true (writeRefusal f s room) k e
 claim-holds (lengthIs f s k) e = eqb-true (lengthIn f s) k e
+claim-holds (logGets s log i k t) e = follow-alike _ _ e
 
 all-hold : (cs : List Claim) → allTested cs ≡ true → AllHold cs
 unfolding allTested
@@ -66,5 +78,5 @@ all-hold [] e = tt
 all-hold (c ∷ cs) e = let p = both-true (tested c) (allTested cs) e in (claim-holds c (p .0), all-hold cs (p .1))
 
 pub cases : AllHold table
-unfolding allTested ruleTest pairFault liftNumber storeFault rowsFault cassetteFault isBlank shown placedAt refusalBy rowsUp rowsDown depthBy deepest sum greatest cassettesBelow cassettes cassetteCount count emptyCount listSpace floor twoShaftReading lifted liftRefusal replayFrom readImage nextField bitsOf imageIn coded cassetteWidth writeRefusal holds bits packed bytesOf
+unfolding allTested ruleTest pairFault liftNumber storeFault rowsFault cassetteFault isBlank shown placedAt refusalBy rowsUp rowsDown depthBy deepest sum greatest cassettesBelow cassettes cassetteCount count emptyCount listSpace floor twoShaftReading lifted liftRefusal replayFrom readImage nextField bitsOf imageIn coded cassetteWidth writeRefusal holds bits packed bytesOf follow followFrom entriesOf entryIn malformed entryFault afterEntry
 cases = all-hold table refl

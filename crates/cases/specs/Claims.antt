@@ -11,6 +11,7 @@ use Rattle.reach.specs.Pairs.{pairFault}
 use Rattle.image.specs.Image.{lengthIn, imageIn}
 use Rattle.image.specs.Reading.{refused, readImage}
 use Rattle.image.specs.Writing.{writeRefusal}
+use Rattle.logs.specs.Following.{follow}
 
 -- a list with zeros after it, k numbers long
 abbrev pub padded : ℕ → List ℕ → List ℕ
@@ -52,6 +53,8 @@ pub data Claim : Type 0 where
   writingGets : ℕ → Store → ℕ → ℕ → Claim
   -- the image of a store in a form has so many bytes
   lengthIs : ℕ → Store → ℕ → Claim
+  -- following a log on a store gives an entry, a number and a store
+  logGets : Store → List ℕ → ℕ → ℕ → Store → Claim
 
 abbrev pub ClaimHolds : Claim → Type 0
 ClaimHolds (liftGets s a b k) = liftNumber s a b ≡ k
@@ -63,6 +66,7 @@ ClaimHolds (readingGets bytes k) = readImage bytes ≡ refused k
 ClaimHolds (imageIs f bytes s) = (readImage bytes ≡ record { store = s; number = 0 }) × (imageIn f s ≡ bytes)
 ClaimHolds (writingGets f s room k) = writeRefusal f s room ≡ k
 ClaimHolds (lengthIs f s k) = lengthIn f s ≡ k
+ClaimHolds (logGets s log i k t) = follow s log ≡ record { reached = t; entry = i; number = k }
 
 -- every claim of a list holds
 abbrev pub AllHold : List Claim → Type 0

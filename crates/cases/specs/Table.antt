@@ -1,11 +1,11 @@
--- The cases that document 01 marks to be proved, "Filled stores to try", some with blanks (request 5/13), some with unequal depths (request 7/13), and some with
--- numbers past 255 (request 8/13), one row for each claim.
+-- The cases that document 01 marks to be proved, "Filled stores to try", some with blanks (request 5/13), some with unequal depths (request 7/13), some with numbers
+-- past 255 (request 8/13), and some logs (request 9/13), one row for each claim.
 use mathlib.Core.List.{List, [], _∷_}
 use Prim.Native.Nat.{ℕ}
 use lib.ListN.{replicate}
 use Rattle.marks.specs.Cassettes.{blank}
 use Rattle.store.specs.declared.Store.{Store}
-use Rattle.cases.specs.Claims.{Claim, liftGets, yesBy, unreachable, pairGets, spaceIs, readingGets, imageIs, writingGets, lengthIs, unevenOf, storeOf}
+use Rattle.cases.specs.Claims.{Claim, liftGets, yesBy, unreachable, pairGets, spaceIs, readingGets, imageIs, writingGets, lengthIs, logGets, unevenOf, storeOf}
 
 -- "m 3, h 3, no cassette"
 abbrev pub bare : Store
@@ -122,6 +122,10 @@ twoUnevenTurned = unevenOf (3 ∷ 1 ∷ []) ((1 ∷ 3 ∷ 2 ∷ []) ∷ [] ∷ [
 abbrev pub past : Store
 past = storeOf 2 ((300 ∷ []) ∷ [])
 
+-- the example with cassette 2 lifted to shaft 1
+abbrev pub exampleLifted : Store
+exampleLifted = storeOf 2 ((1 ∷ []) ∷ (2 ∷ []) ∷ (3 ∷ []) ∷ [])
+
 abbrev pub table : List Claim
 table =
     yesBy bare [] bare
@@ -202,4 +206,28 @@ table =
     ∷ writingGets 2 past 3 10
     ∷ writingGets 0 uneven 500 18
     ∷ writingGets 1 uneven 500 0
+    -- a lift "of the cassette named", and sightings of "the top cassette of the first shaft, or 0 for an empty shaft"
+    ∷ logGets example (0x00 ∷ 0x10 ∷ 0x02 ∷ 0x11 ∷ 0x00 ∷ 0x02 ∷ 0x10 ∷ 0x00 ∷ 0x01 ∷ []) 3 0 exampleLifted
+    ∷ logGets example (0x11 ∷ 0x00 ∷ 0x00 ∷ []) 1 0 example
+    ∷ logGets example [] 0 0 example
+    -- "the first entry that can't be true, counted from 0, with the store before that entry"; "20, a wrong number"
+    ∷ logGets example (0x00 ∷ 0x10 ∷ 0x02 ∷ 0x00 ∷ 0x10 ∷ 0x03 ∷ 0x11 ∷ 0x00 ∷ 0x02 ∷ []) 1 20 exampleLifted
+    ∷ logGets example (0x11 ∷ 0x00 ∷ 0x02 ∷ []) 0 20 example
+    ∷ logGets example (0x10 ∷ 0x00 ∷ 0x00 ∷ []) 0 20 example
+    -- "tested after 19, 13 and 14"
+    ∷ logGets example (0x01 ∷ 0x00 ∷ 0x09 ∷ []) 0 13 example
+    ∷ logGets example (0x02 ∷ 0x00 ∷ 0x09 ∷ []) 0 14 example
+    -- "a kind above 1, a shaft not below m, a sighting with a second shaft, or a lift with one shaft twice"
+    ∷ logGets example (0x20 ∷ 0x10 ∷ 0x02 ∷ []) 0 19 example
+    ∷ logGets example (0x13 ∷ 0x00 ∷ 0x00 ∷ []) 0 19 example
+    ∷ logGets example (0x00 ∷ 0x30 ∷ 0x02 ∷ []) 0 19 example
+    ∷ logGets example (0x11 ∷ 0x10 ∷ 0x00 ∷ []) 0 19 example
+    ∷ logGets example (0x01 ∷ 0x10 ∷ 0x00 ∷ []) 0 19 example
+    -- "a length that isn't a multiple of 3 (tested before any entry)"; "a refused store, then a wrong length"
+    ∷ logGets example (0x00 ∷ 0x10 ∷ 0x02 ∷ 0x11 ∷ []) 0 19 example
+    ∷ logGets example (0x11 ∷ 0x00 ∷ 0x02 ∷ 0x00 ∷ []) 0 19 example
+    ∷ logGets (storeOf 2 ((0 ∷ []) ∷ [])) (0x10 ∷ []) 0 4 (storeOf 2 ((0 ∷ []) ∷ []))
+    -- in a log too 4,095 is the blank, and 255 is a cassette; 14 is by the shaft's own depth
+    ∷ logGets (storeOf 2 ((1 ∷ blank ∷ []) ∷ [] ∷ [])) (0x00 ∷ 0x1F ∷ 0xFF ∷ 0x11 ∷ 0x00 ∷ 0xFF ∷ []) 1 20 (storeOf 2 ((1 ∷ []) ∷ (blank ∷ []) ∷ []))
+    ∷ logGets twoUneven (0x00 ∷ 0x10 ∷ 0x02 ∷ []) 0 14 twoUneven
     ∷ []
