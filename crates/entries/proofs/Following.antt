@@ -5,21 +5,21 @@ use Rattle.lifts.specs.Numbers.{Only}
 use Rattle.store.specs.declared.Store.{Store}
 use Rattle.store.specs.Lifts.{whenNone}
 use Rattle.store.proofs.Lifting.{when-some}
-use Rattle.entries.specs.declared.Compared.{Compared}
+use Rattle.entries.specs.declared.Truth.{Truth}
 use Rattle.entries.specs.declared.Entry.{Entry}
 use Rattle.entries.specs.Entries.{entryFault, afterEntry}
-use Rattle.entries.specs.Numbers.{comparedNumber}
+use Rattle.entries.specs.Numbers.{truthNumber}
 use Rattle.entries.specs.Promises.{EntryIs}
 
 module _ (s : Store) (e : Entry) where
-  module _ {r : Compared} (c : Only comparedNumber (entryFault s e) r) where
+  module _ {r : Truth} (c : Only truthNumber (entryFault s e) r) where
     pub entry-stays : (entryFault s e ≡ 0 → ⊥) → EntryIs s e s r
-    entry-stays n = record { compared = c; store = when-some (entryFault s e) (afterEntry s e) s n }
+    entry-stays n = record { truth = c; store = when-some (entryFault s e) (afterEntry s e) s n }
 
     pub entry-goes : {t : Store} → entryFault s e ≡ 0 → t ≡ afterEntry s e → EntryIs s e t r
-    entry-goes z f = record { compared = c; store = f ∙ ap (λ (k : ℕ). whenNone k (afterEntry s e) s) (sym z) }
+    entry-goes z f = record { truth = c; store = f ∙ ap (λ (k : ℕ). whenNone k (afterEntry s e) s) (sym z) }
 
-  module _ {t : Store} {r : Compared} (q : EntryIs s e t r) where
+  module _ {t : Store} {r : Truth} (q : EntryIs s e t r) where
     pub entry-left : (entryFault s e ≡ 0 → ⊥) → t ≡ s
     entry-left n = q .store ∙ sym (when-some (entryFault s e) (afterEntry s e) s n)
 
@@ -27,5 +27,5 @@ module _ (s : Store) (e : Entry) where
     entry-done z = q .store ∙ ap (λ (k : ℕ). whenNone k (afterEntry s e) s) z
 
   -- one answer alone keeps the promise
-  pub entry-exact : {t u : Store} {x y : Compared} → EntryIs s e t x → EntryIs s e u y → (t ≡ u) × (x ≡ y)
-  entry-exact {t} {u} {x} p q = (p .store ∙ sym (q .store), q .compared .alone x (p .compared .has))
+  pub entry-exact : {t u : Store} {x y : Truth} → EntryIs s e t x → EntryIs s e u y → (t ≡ u) × (x ≡ y)
+  entry-exact {t} {u} {x} p q = (p .store ∙ sym (q .store), q .truth .alone x (p .truth .has))

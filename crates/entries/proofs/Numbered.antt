@@ -8,8 +8,8 @@ use Rattle.lifts.specs.Numbers.{Only}
 use Rattle.lifts.proofs.Numbered.{only-by}
 use Rattle.entries.specs.declared.Untrue.{Untrue}
 use Rattle.entries.specs.declared.Untrue.the-variants.{Malformed, ShaftEmpty, ShaftFull, WrongNumber}
-use Rattle.entries.specs.declared.Compared.{Compared}
-use Rattle.entries.specs.Numbers.{untrueNumber, comparedNumber}
+use Rattle.entries.specs.declared.Truth.{Truth}
+use Rattle.entries.specs.Numbers.{untrueNumber, truthNumber}
 
 -- An answer told from its number: why an entry can't be true, or any other answer.
 module _ {A : Type 0} (untrue : Untrue → A) (other : ℕ → A) where
@@ -25,13 +25,13 @@ module _ {A : Type 0} (untrue : Untrue → A) (other : ℕ → A) where
   told-untrue ShaftFull = refl
   told-untrue WrongNumber = refl
 
-pub only-compared : {k : ℕ} {r : Compared} → comparedNumber r ≡ k → Only comparedNumber k r
+pub only-truth : {k : ℕ} {r : Truth} → truthNumber r ≡ k → Only truthNumber k r
 unfolding told
-only-compared = only-by (told Compared.Differs (λ k. Compared.Agrees)) each
+only-truth = only-by (told Truth.CannotBe (λ k. Truth.CanBe)) each
   where
-    each : (r : Compared) → told Compared.Differs (λ k. Compared.Agrees) (comparedNumber r) ≡ r
-    each Compared.Agrees = refl
-    each (Compared.Differs u) = told-untrue Compared.Differs (λ k. Compared.Agrees) u
+    each : (r : Truth) → told Truth.CannotBe (λ k. Truth.CanBe) (truthNumber r) ≡ r
+    each Truth.CanBe = refl
+    each (Truth.CannotBe u) = told-untrue Truth.CannotBe (λ k. Truth.CanBe) u
 
 pub untrue-one : (u : Untrue) → untrueNumber u ≡ 0 → ⊥
 untrue-one Malformed e = omega arith

@@ -2,7 +2,7 @@
 use Prim.Native.Nat.{ℕ}
 use Rattle.entries.specs.declared.Untrue.{Untrue}
 use Rattle.entries.specs.declared.Untrue.the-variants.{Malformed, ShaftEmpty, ShaftFull, WrongNumber}
-use Rattle.entries.specs.declared.Compared.{Compared}
+use Rattle.entries.specs.declared.Truth.{Truth}
 
 abbrev pub untrueNumber : Untrue → ℕ
 untrueNumber Malformed = 19
@@ -10,6 +10,6 @@ untrueNumber ShaftEmpty = 13
 untrueNumber ShaftFull = 14
 untrueNumber WrongNumber = 20
 
-abbrev pub comparedNumber : Compared → ℕ
-comparedNumber Compared.Agrees = 0
-comparedNumber (Compared.Differs u) = untrueNumber u
+abbrev pub truthNumber : Truth → ℕ
+truthNumber Truth.CanBe = 0
+truthNumber (Truth.CannotBe u) = untrueNumber u

@@ -25,7 +25,7 @@ ghost use Rattle.lifts.specs.Numbers.{Only, refusalNumber};
 ghost use Rattle.store.specs.Slots.{held};
 ghost use Rattle.store.specs.Sound.{Shaped};
 ghost use Rattle.entries.specs.Entries.{entryBytes, entryIn, malformed, entryFault};
-ghost use Rattle.entries.specs.Numbers.{untrueNumber, comparedNumber};
+ghost use Rattle.entries.specs.Numbers.{untrueNumber, truthNumber};
 ghost use Rattle.entries.specs.Promises.{liftFault, EntryIs};
 
 // "kind (4 bits), shaft (4), second shaft (4), number (12)"
@@ -45,9 +45,9 @@ pub enum Untrue {
 }
 
 // Whether an entry can be true.
-pub enum Compared {
-    Agrees,
-    Differs(Untrue),
+pub enum Truth {
+    CanBe,
+    CannotBe(Untrue),
 }
 
 // A field of w bits that is there.
@@ -108,13 +108,13 @@ fn untrue_of(r: Refusal) -> Untrue
 }
 
 // Whether 13 or 14 applies to an entry that is well formed.
-fn judge_entry(m: u8, depths: Depths, heights: &Heights, e: Entry) -> Compared
+fn judge_entry(m: u8, depths: Depths, heights: &Heights, e: Entry) -> Truth
     requires { ⌜ malformed m e ≡ false ⌝ }
     requires { ⌜ length (now heights) ≡ mostShafts ⌝ }
-    ensures { λ r. ⌜ comparedNumber r ≡ liftFault m depths (now (heights .entry)) e ⌝ }
+    ensures { λ r. ⌜ truthNumber r ≡ liftFault m depths (now (heights .entry)) e ⌝ }
 {
     if e.kind != 0 {
-        return Compared::Agrees;
+        return Truth::CanBe;
     }
     let from = e.shaft;
     let to = e.second;
@@ -122,8 +122,8 @@ fn judge_entry(m: u8, depths: Depths, heights: &Heights, e: Entry) -> Compared
     let left = height_of(heights, from);
     let entered = height_of(heights, to);
     match judge(m, depth, from, to, left, entered) {
-        Judged::Allowed => Compared::Agrees,
-        Judged::Refused(r) => Compared::Differs(untrue_of(r)),
+        Judged::Allowed => Truth::CanBe,
+        Judged::Refused(r) => Truth::CannotBe(untrue_of(r)),
     }
 }
 
@@ -141,20 +141,20 @@ fn shows(heights: &Heights, slots: &Slots, x: Shaft, number: Cassette) -> bool
 }
 
 // Whether an entry can be true of a store, or else why not.
-fn compare(m: u8, depths: Depths, heights: &Heights, slots: &Slots, e: Entry) -> Compared
+fn compare(m: u8, depths: Depths, heights: &Heights, slots: &Slots, e: Entry) -> Truth
     requires { ⌜ Shaped (held m depths (now heights) (now slots)) ⌝ }
-    ensures { λ r. ⌜ Only comparedNumber (entryFault (held m depths (now (heights .entry)) (now (slots .entry))) e) r ⌝ }
+    ensures { λ r. ⌜ Only truthNumber (entryFault (held m depths (now (heights .entry)) (now (slots .entry))) e) r ⌝ }
 {
     if is_malformed(m, e) {
-        return Compared::Differs(Untrue::Malformed);
+        return Truth::CannotBe(Untrue::Malformed);
     }
-    if let Compared::Differs(u) = judge_entry(m, depths, heights, e) {
-        return Compared::Differs(u);
+    if let Truth::CannotBe(u) = judge_entry(m, depths, heights, e) {
+        return Truth::CannotBe(u);
     }
     if !shows(heights, slots, e.shaft, e.number) {
-        return Compared::Differs(Untrue::WrongNumber);
+        return Truth::CannotBe(Untrue::WrongNumber);
     }
-    Compared::Agrees
+    Truth::CanBe
 }
 
 // An entry followed in the heights and the slots of a store of m shafts with these depths: a lift that can be true is made in place.
@@ -164,12 +164,12 @@ pub fn follow_entry(
     heights: &mut Heights,
     slots: &mut Slots,
     e: Entry,
-) -> Compared
+) -> Truth
     requires { ⌜ Shaped (held m depths (now heights) (now slots)) ⌝ }
     ensures { λ r. ⌜ EntryIs (held m depths (now (heights .entry)) (now (slots .entry))) e (held m depths (now (heights .exit)) (now (slots .exit))) r ⌝ }
 {
     let found = compare(m, depths, heights, slots, e);
-    if let Compared::Differs(_) = found {
+    if let Truth::CannotBe(_) = found {
         return found;
     }
     if e.kind == 0 {

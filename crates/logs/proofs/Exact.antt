@@ -4,9 +4,9 @@ use Rattle.store.specs.declared.Store.{Store}
 use Rattle.logs.specs.declared.Followed.{Followed}
 use Rattle.logs.specs.declared.Traced.{Traced}
 use Rattle.logs.specs.Following.{Following}
-use Rattle.logs.specs.Promises.{FollowIs, TracedIs}
+use Rattle.logs.specs.Promises.{FollowedIs, TracedIs}
 
-pub follow-exact : (o : Following) {x y : Followed} → FollowIs o x → FollowIs o y → x ≡ y
+pub follow-exact : (o : Following) {x y : Followed} → FollowedIs o x → FollowedIs o y → x ≡ y
 follow-exact o {x} {y} p q =
     λ i. record { store = (p .store ∙ sym (q .store)) i; entry = (p .entry ∙ sym (q .entry)) i; end = q .end .alone (x .end) (p .end .has) i }
 

@@ -13,11 +13,11 @@ use Rattle.store.specs.Accept.{storeFault, Accepted}
 use Rattle.store.specs.Numbers.{faultNumber}
 use Rattle.store.specs.Sound.{Shaped}
 use Rattle.store.proofs.Checks.{fault-one}
-use Rattle.entries.specs.declared.Compared.{Compared}
+use Rattle.entries.specs.declared.Truth.{Truth}
 use Rattle.entries.specs.declared.Entry.{Entry}
 use Rattle.entries.specs.declared.Untrue.{Untrue}
 use Rattle.entries.specs.Entries.{entryIn, entryFault, afterEntry}
-use Rattle.entries.specs.Numbers.{untrueNumber, comparedNumber}
+use Rattle.entries.specs.Numbers.{untrueNumber, truthNumber}
 use Rattle.entries.specs.Promises.{EntryIs}
 use Rattle.entries.proofs.Comparing.{none-true}
 use Rattle.entries.proofs.Following.{entry-left, entry-done}
@@ -26,7 +26,7 @@ use Rattle.logs.specs.declared.LogEnd.{LogEnd}
 use Rattle.logs.specs.declared.Traced.{Traced}
 use Rattle.logs.specs.Following.{Following, noneTrue, entriesOf, followFrom, follow}
 use Rattle.logs.specs.Numbers.{logEndNumber}
-use Rattle.logs.specs.Promises.{TracedIs, FollowIs}
+use Rattle.logs.specs.Promises.{TracedIs, FollowedIs}
 use Rattle.logs.proofs.Ends.{only-end}
 use Rattle.logs.proofs.Following.{follow-goes, follow-stops, follow-refused, follow-wrong, after-shaped}
 use Rattle.logs.proofs.Runs.{entries-none, entries-next}
@@ -63,7 +63,7 @@ module _ (s t : Store) (log : List ℕ) (n : ℕ) (g : Goes s log t n) where
   goes-through h = ends LogEnd.AllTrue (ap (followFrom t) (entries-none (drop (3 * n) log) (simp length-drop (omega arith))))
 
   -- the next entry was followed
-  module _ (h : n < length log / 3) {e : Entry} (a : e ≡ entryIn (bitsOf (drop (3 * n) log))) {u : Store} {r : Compared} (q : EntryIs t e u r) where
+  module _ (h : n < length log / 3) {e : Entry} (a : e ≡ entryIn (bitsOf (drop (3 * n) log))) {u : Store} {r : Truth} (q : EntryIs t e u r) where
     -- what is left after n entries begins with it
     next : followFrom t (entriesOf (drop (3 * n) log)) ≡ followFrom t (e ∷ entriesOf (drop (3 * suc n) log))
     next =
@@ -73,14 +73,14 @@ module _ (s t : Store) (log : List ℕ) (n : ℕ) (g : Goes s log t n) where
         ∙ ap (λ (l : List ℕ). entryIn (bitsOf (drop (3 * n) log)) ∷ entriesOf l) (drop-drop 3 (3 * n) log ∙ ap (λ (k : ℕ). drop k log) i)
         ∙ ap (λ (e : Entry). e ∷ entriesOf (drop (3 * suc n) log)) (sym a))
 
-    pub goes-stopped : (f : Untrue) → untrueNumber f ≡ comparedNumber r → TracedIs (followFrom s (entriesOf log)) u (record { entry = n; end = LogEnd.Stopped f })
+    pub goes-stopped : (f : Untrue) → untrueNumber f ≡ truthNumber r → TracedIs (followFrom s (entriesOf log)) u (record { entry = n; end = LogEnd.Stopped f })
     goes-stopped f d =
-        let k : untrueNumber f ≡ entryFault t e = d ∙ q .compared .has in
+        let k : untrueNumber f ≡ entryFault t e = d ∙ q .truth .has in
         rw (entry-left t e q (λ z. untrue-one f (k ∙ z))) (ends (LogEnd.Stopped f) (next ∙ follow-stops t e _ (untrueNumber f) (sym k) (untrue-one f)))
 
-    pub goes-on : comparedNumber r ≡ 0 → Goes s log u (n + 1)
+    pub goes-on : truthNumber r ≡ 0 → Goes s log u (n + 1)
     goes-on d =
-        let z : entryFault t e ≡ 0 = sym (q .compared .has) ∙ d in
+        let z : entryFault t e ≡ 0 = sym (q .truth .has) ∙ d in
         let goes = next ∙ follow-goes t e _ z in
         rw (add-one, entry-done t e q z) (record {
           shaped = after-shaped t e (g .shaped) (none-true t e z);
@@ -93,8 +93,8 @@ module _ (s t : Store) (log : List ℕ) (n : ℕ) (g : Goes s log t n) where
 pub traced-wrong : (s : Store) (log : List ℕ) → Accepted s → (length log % 3 ≡ 0 → ⊥) → TracedIs (follow s log) s (record { entry = 0; end = LogEnd.Stopped Untrue.Malformed })
 traced-wrong s log p n = at-once s (LogEnd.Stopped Untrue.Malformed) (follow s log) (follow-wrong s log p n)
 
-pub follow-traced : {o : Following} (t : Store) (r : Traced) → TracedIs o t r → FollowIs o (record { store = t; entry = r .entry; end = r .end })
+pub follow-traced : {o : Following} (t : Store) (r : Traced) → TracedIs o t r → FollowedIs o (record { store = t; entry = r .entry; end = r .end })
 follow-traced t r q = record { store = q .store; entry = q .entry; end = q .end }
 
-pub followed-refused : (s : Store) (log : List ℕ) (f : Fault) → storeFault s ≡ faultNumber f → FollowIs (follow s log) (record { store = s; entry = 0; end = LogEnd.StoreRefused f })
+pub followed-refused : (s : Store) (log : List ℕ) (f : Fault) → storeFault s ≡ faultNumber f → FollowedIs (follow s log) (record { store = s; entry = 0; end = LogEnd.StoreRefused f })
 followed-refused s log f e = follow-traced s _ (at-once s (LogEnd.StoreRefused f) (follow s log) (follow-refused s log (faultNumber f) e (fault-one f)))

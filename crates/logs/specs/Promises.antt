@@ -8,7 +8,7 @@ use Rattle.logs.specs.Following.{Following}
 use Rattle.logs.specs.Numbers.{logEndNumber}
 
 -- A log that was followed came to an outcome.
-pub record FollowIs (o : Following) (r : Followed) : Type 0 where
+pub record FollowedIs (o : Following) (r : Followed) : Type 0 where
   pub store : r .store ≡ o .reached
   pub entry : r .entry ≡ o .entry
   pub end : Only logEndNumber (o .number) (r .end)

@@ -1,6 +1,6 @@
 // Following the changer's log (document 02, 9/13): "the store after it, or the first entry that can't be true, counted from 0, with the store before that entry".
 use depths::Depths;
-use entries::Compared;
+use entries::Truth;
 use entries::Untrue;
 use entries::first_entry;
 use entries::follow_entry;
@@ -14,7 +14,7 @@ ghost use Rattle.store.specs.Accept.{Accepted};
 ghost use Rattle.store.specs.Slots.{held};
 ghost use Rattle.store.specs.Sound.{Shaped};
 ghost use Rattle.logs.specs.Following.{entriesOf, followFrom, follow};
-ghost use Rattle.logs.specs.Promises.{TracedIs, FollowIs};
+ghost use Rattle.logs.specs.Promises.{TracedIs, FollowedIs};
 
 // How following a log ends. A log of a wrong length is malformed, at entry 0.
 pub enum LogEnd {
@@ -52,7 +52,7 @@ fn trace_entries(
     while entry < count {
         let rest = &log[3 * entry..];
         let e = first_entry(rest);
-        if let Compared::Differs(u) = follow_entry(m, depths, heights, slots, e) {
+        if let Truth::CannotBe(u) = follow_entry(m, depths, heights, slots, e) {
             return Traced {
                 entry,
                 end: LogEnd::Stopped(u),
@@ -82,7 +82,7 @@ pub fn trace(m: u8, depths: Depths, heights: &mut Heights, slots: &mut Slots, lo
 
 // A log followed on a store, or the store as it came where it is refused.
 pub fn follow(s: Store, log: &[u8]) -> Followed
-    ensures { λ r. ⌜ FollowIs (follow s (now (log .entry))) r ⌝ }
+    ensures { λ r. ⌜ FollowedIs (follow s (now (log .entry))) r ⌝ }
 {
     let checked = s.check();
     let verdict = checked.verdict;

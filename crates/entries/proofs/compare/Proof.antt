@@ -9,14 +9,14 @@ use Rattle.store.specs.declared.Store.{Store}
 use Rattle.store.specs.Lifts.{liftRefusal}
 use Rattle.store.specs.Slots.{held}
 use Rattle.entries.specs.Entries.{isLift, malformed}
-use Rattle.entries.specs.Numbers.{comparedNumber}
+use Rattle.entries.specs.Numbers.{truthNumber}
 use Rattle.entries.proofs.Comparing.{formed, fault-malformed, fault-lift, fault-number, fault-none}
-use Rattle.entries.proofs.Numbered.{only-compared, untrue-one}
+use Rattle.entries.proofs.Numbered.{only-truth, untrue-one}
 use Rattle.entries.proofs.compare.Statement.{statement}
 use Rattle.entries.proofs.compare.Tie as tie
 
 returns : tie.Need-returns
-returns c = only-compared (sym (fault-malformed _ _ (sym (c .before .is-malformed .ensures) ∙ c .if1 .taken)))
+returns c = only-truth (sym (fault-malformed _ _ (sym (c .before .is-malformed .ensures) ∙ c .if1 .taken)))
 
 -- 19 does not apply past its test
 well : (c : tie.Else1) → let a = c .before .before .args in malformed (a .m) (a .e) ≡ false
@@ -30,8 +30,8 @@ unfolding liftRefusal
 returns-2 c =
     let j = c .before .before .before in
     let u = c .before .u .given in
-    let n = sym (ap comparedNumber (u .1)) ∙ j .judge-entry .ensures in
-    only-compared (n ∙ sym (fault-lift _ _ (well (j .before)) (λ z. untrue-one (u .0 .0) (n ∙ z))))
+    let n = sym (ap truthNumber (u .1)) ∙ j .judge-entry .ensures in
+    only-truth (n ∙ sym (fault-lift _ _ (well (j .before)) (λ z. untrue-one (u .0 .0) (n ∙ z))))
 
 -- the store whose arrays are lent
 abbrev came : (c : tie.Else1) → Store
@@ -47,19 +47,19 @@ shows-requires c κs =
 -- and past theirs 13 and 14 don't
 free : (c : tie.After-enum-told) → let w = c .before .before .before in 0 ≡ given (isLift (w .before .before .args .e)) (liftRefusal (came w) (w .before .before .args .e .shaft .0) (w .before .before .args .e .second .0))
 unfolding liftRefusal
-free c = sym (ap comparedNumber (c .enum-told .given .1)) ∙ c .before .before .judge-entry .ensures
+free c = sym (ap truthNumber (c .enum-told .given .1)) ∙ c .before .before .judge-entry .ensures
 
 returns-3 : tie.Need-returns-3
 returns-3 c =
     let t = c .before in
     let w = t .before .before .before .before in
-    only-compared (sym (fault-number (came w) _ (well w) (sym (free (t .before))) (eqb-false _ _ (sym (t .shows .ensures) ∙ not-true _ (c .if2 .taken)))))
+    only-truth (sym (fault-number (came w) _ (well w) (sym (free (t .before))) (eqb-false _ _ (sym (t .shows .ensures) ∙ not-true _ (c .if2 .taken)))))
 
 returns-4 : tie.Need-returns-4
 returns-4 c =
     let t = c .before in
     let w = t .before .before .before .before in
-    only-compared (sym (fault-none (came w) _ (well w) (sym (free (t .before))) (eqb-true _ _ (sym (t .shows .ensures) ∙ not-false _ (c .if2 .left)))))
+    only-truth (sym (fault-none (came w) _ (well w) (sym (free (t .before))) (eqb-true _ _ (sym (t .shows .ensures) ∙ not-false _ (c .if2 .left)))))
 
 pub compare-spec : {M : Type 1} → statement M
 compare-spec =

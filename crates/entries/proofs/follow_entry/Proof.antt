@@ -5,7 +5,7 @@ use Rattle.store.specs.declared.Store.{Store}
 use Rattle.store.specs.Slots.{held}
 use Rattle.store.proofs.Lifting.{can-carry, carried-store}
 use Rattle.entries.specs.Entries.{entryFault}
-use Rattle.entries.specs.Numbers.{comparedNumber}
+use Rattle.entries.specs.Numbers.{truthNumber}
 use Rattle.entries.proofs.Comparing.{none-true, after-lift, after-sighting}
 use Rattle.entries.proofs.Following.{entry-stays, entry-goes}
 use Rattle.entries.proofs.Numbered.{untrue-one}
@@ -18,13 +18,13 @@ came c = let a = c .before .before .before .args in held (a .m) (a .depths) (a .
 
 -- past the test the entry can be true
 free : (c : tie.After-enum-told2) → entryFault (came (c .before .before)) (c .before .before .before .before .before .args .e) ≡ 0
-free c = sym (c .before .before .compare .ensures .has) ∙ ap comparedNumber (c .enum-told2 .given .1)
+free c = sym (c .before .before .compare .ensures .has) ∙ ap truthNumber (c .enum-told2 .given .1)
 
 returns : tie.Need-returns
 returns c =
     let w = c .before .before in
     let g = c .enum-told .given in
-    entry-stays (came w) _ (w .compare .ensures) (λ z. untrue-one (g .0 .0) (sym (ap comparedNumber (g .1)) ∙ w .compare .ensures .has ∙ z))
+    entry-stays (came w) _ (w .compare .ensures) (λ z. untrue-one (g .0 .0) (sym (ap truthNumber (g .1)) ∙ w .compare .ensures .has ∙ z))
 
 carry-requires : tie.Need-carry-requires
 carry-requires c κs =

@@ -8,7 +8,7 @@ use lib.ListN.{length, drop, length-drop, length-take}
 use Rattle.bits.specs.Fields.{bitsOf}
 use Rattle.store.specs.Slots.{held}
 use Rattle.entries.specs.Entries.{entryIn}
-use Rattle.entries.specs.Numbers.{comparedNumber}
+use Rattle.entries.specs.Numbers.{truthNumber}
 use Rattle.logs.proofs.Runs.{slice-after}
 use Rattle.logs.proofs.Tracing.{Goes, goes-start, goes-through, goes-stopped, goes-on}
 use Rattle.logs.proofs.trace_entries.Statement.{statement}
@@ -46,7 +46,7 @@ returns c =
     let e = w .before .before .before in
     let i = e .before .before in
     let u = c .before .u .given in
-    goes-stopped _ _ _ _ (i .before .loop .inv .1) (omega (arith, i .loop-test .taken, i .before .loop .inv .0)) (decoded e) (w .follow-entry .ensures) (u .0 .0) (sym (ap comparedNumber (u .1)))
+    goes-stopped _ _ _ _ (i .before .loop .inv .1) (omega (arith, i .loop-test .taken, i .before .loop .inv .0)) (decoded e) (w .follow-entry .ensures) (u .0 .0) (sym (ap truthNumber (u .1)))
 
 add-entry : tie.Need-add-entry Inv-loop μ-loop
 add-entry c =
@@ -58,7 +58,7 @@ loop-again c =
     let w = c .before .before in
     let e = w .before .before .before in
     let i = e .before .before in
-    (i .before .loop .inv .0, goes-on _ _ _ _ (i .before .loop .inv .1) (omega (arith, i .loop-test .taken, i .before .loop .inv .0)) (decoded e) (w .follow-entry .ensures) (ap comparedNumber (c .enum-told .given .1)))
+    (i .before .loop .inv .0, goes-on _ _ _ _ (i .before .loop .inv .1) (omega (arith, i .loop-test .taken, i .before .loop .inv .0)) (decoded e) (w .follow-entry .ensures) (ap truthNumber (c .enum-told .given .1)))
 
 returns-2 : tie.Need-returns-2 Inv-loop μ-loop
 returns-2 c = goes-through _ _ _ _ (c .before .loop .inv .1) (omega (arith, c .loop-test .left, c .before .loop .inv .0))
