@@ -278,15 +278,12 @@ struct Logs {
 impl Logs {
     fn add(&mut self, shape: &Shape, cases: &[Case], logs: &[Vec<u8>], rounds: usize) {
         let [calls, plain] = timing::logs(cases, logs, rounds);
-        let of_an_entry = |time: Option<f64>| decimals(time.map(|time| time / ENTRIES as f64));
         self.rows += &format!(
-            "| {shape} | {} | {} | {} | {} | {} | {} | {} |\n",
+            "| {shape} | {} | {} | {} | {} | {} |\n",
             shape.e,
             shape.n(),
             microseconds(calls),
             microseconds(plain),
-            of_an_entry(calls),
-            of_an_entry(plain),
             decimals(ratio(calls, plain)),
         );
     }
@@ -295,10 +292,10 @@ impl Logs {
         format!(
             "\
 A log of {ENTRIES} entries in one call, all true, about half of them lifts and half sightings, on the starts above. The time of the
-whole log, and that time divided by the entries, in which reading the image and writing one have a part.
+whole log, in which reading the image and writing one have a part.
 
-| m × h | e | n | (a), µs | (b), µs | (a), ns for an entry | (b), ns for an entry | (a) / (b) |
-|---|--:|--:|--:|--:|--:|--:|--:|
+| m × h | e | n | (a), µs | (b), µs | (a) / (b) |
+|---|--:|--:|--:|--:|--:|
 {}",
             self.rows
         )
