@@ -34,10 +34,10 @@
  * Every call reads all three forms, and goes by what an image means: start and
  * goal may come in different forms, and an order names 4,095 for a blank,
  * whatever the form. An image is written in the form that the caller names:
- * halyard_convert takes its number, and halyard_replay writes in the form of
- * the image given. A store has one image in each form that can hold it, which
- * reads as that store, and an accepted image is the image of its store in the
- * form that it names. (Proved: image-read and read-image, in
+ * halyard_convert takes its number, and halyard_replay and halyard_follow write
+ * in the form of the image given. A store has one image in each form that can
+ * hold it, which reads as that store, and an accepted image is the image of its
+ * store in the form that it names. (Proved: image-read and read-image, in
  * crates/image/proofs/RoundTrip.antt.)
  *
  * LISTS. A list is bytes, one for each lift: the shaft left in the high four
@@ -325,7 +325,8 @@ uint64_t halyard_replay(const uint8_t *image, size_t image_len,
  *
  * Reads image and log; log_len is a count of bytes. The store is written in the
  * form of image, so that what is written has image_len bytes, and out_len must
- * be at least image_len.
+ * be at least image_len. (Proved: follow-as-long, in
+ * crates/follow_call/proofs/FollowAnswers.antt.)
  * Returns HALYARD_OK and the count of entries, log_len / 3, where every entry
  * is true. What is written is then the store after the log.
  * Where an entry can't be true, returns its number, and as the count its place,
@@ -339,11 +340,13 @@ uint64_t halyard_replay(const uint8_t *image, size_t image_len,
  *   - HALYARD_LOG_NUMBER where its number is not the one that the store shows:
  *     of a lift, the cassette that it would carry; of a sighting, the top
  *     cassette of the shaft, or 0 where it is empty.
- * A log that gives HALYARD_OK has none of these: every lift in it is legal, and
- * each number is the one that the store shows.
+ * So a log gives HALYARD_OK exactly if nothing in it is HALYARD_LOG_MALFORMED,
+ * every lift is legal and each number is the one that the store shows. (Proved:
+ * accepted-true and true-accepted, in crates/logs/proofs/Whole.antt.)
  * Where log_len is no multiple of 3, no entry is looked at: returns
  * HALYARD_LOG_MALFORMED and count 0. What is written is then the store as it
- * came, the bytes of image.
+ * came, the bytes of image. (Proved: wrong-length-own, in
+ * crates/follow_call/proofs/FollowAnswers.antt.)
  * In all these cases the first image_len bytes of out are written, and the rest
  * stay as they came.
  * Otherwise it writes nothing and returns, with count 0, the first fault of

@@ -4,6 +4,7 @@ use mathlib.Core.Bool.{true}
 use mathlib.Core.List.{List, _++_}
 use mathlib.Core.Path.{_≡_, sym, ap, _∙_}
 use Prim.Native.Nat.{ℕ, _+_, _≤_, _<_}
+use native.Mathlib.Decide.{ℕ-discrete}
 use native.Mathlib.Omega.{arith}
 use lib.Dec.{ltb}
 use lib.ListN.{length, getD, drop}
@@ -89,3 +90,11 @@ module _ (a : List ℕ) (small : (i : ℕ) → getD a i 0 < 256) {t : Store} {bs
 -- a refused call
 pub back-refused : {a came out : List ℕ} {k r : ℕ} (t : Store) (count number : ℕ) → RefusedCall k came out r → k ≡ backFault a (length came) → (k ≡ 0 → ⊥) → HandsBack a came t count number r out
 back-refused t count number q e n = record { refused = λ _. (q .number ∙ e, q .bytes); done = λ z. absurd (n (e ∙ z)) }
+
+-- one answer and the same bytes: two that keep the promise are equal
+pub back-exact : (a came : List ℕ) (t : Store) (count number : ℕ) {r q : ℕ} {x y : List ℕ} → HandsBack a came t count number r x → HandsBack a came t count number q y → (r ≡ q) × (x ≡ y)
+back-exact a came t count number p q =
+    elim (ℕ-discrete (backFault a (length came)) 0) [
+      | yes z ↦ (p .done z .0 ∙ sym (q .done z .0), p .done z .1 ∙ sym (q .done z .1))
+      | no n ↦ (p .refused n .0 ∙ sym (q .refused n .0), p .refused n .1 ∙ sym (q .refused n .1))
+    ]

@@ -1,4 +1,4 @@
--- No two ways to compare an entry have the same number: each is the only one with its own.
+-- No two values of `Truth` have the same number: each is the only one with its own.
 use mathlib.Core.Bool.{cond}
 use mathlib.Core.Path.{_≡_, refl}
 use Prim.Native.Nat.{ℕ}

@@ -1,4 +1,4 @@
--- Document 02's number for each way in which an entry can't be true; 0 where it can.
+-- Document 01's number, or document 02's, for each way in which an entry can't be true; 0 where it can.
 use Prim.Native.Nat.{ℕ}
 use Rattle.entries.specs.declared.Untrue.{Untrue}
 use Rattle.entries.specs.declared.Untrue.the-variants.{Malformed, ShaftEmpty, ShaftFull, WrongNumber}

@@ -95,7 +95,7 @@ fn is_malformed(m: u8, e: Entry) -> bool
     shaft.0 == second.0
 }
 
-// Why a lift can't be true that is refused, and not by 11.
+// Why an entry can't be true whose lift is refused, by 13 or 14.
 fn untrue_of(r: Refusal) -> Untrue
     requires { ⌜ (refusalNumber r ≡ 11 → ⊥) ⌝ }
     ensures { λ u. ⌜ untrueNumber u ≡ refusalNumber r ⌝ }

@@ -1,4 +1,4 @@
-// Follows logs on stores given as values (document 02, 9/13), refused ones among them, and prints the entry, the number (0: all true) and what each shaft shows then. Held to
+// Follows logs on stores given as values (document 02, 9/13), refused ones among them, and prints the entry, the number (0: all true), and m and what each shaft shows of the store handed back. Held to
 // the file stdout.
 use depths::equal;
 use libc::STDOUT_FILENO;
@@ -62,7 +62,8 @@ fn show(what: &[u8], s: Store, log: &[u8]) {
     io::write_all(STDOUT_FILENO, what);
     say(b": entry ", followed.entry as u64);
     say(b", number ", log_end_number(end) as u64);
-    io::write_all(STDOUT_FILENO, b",");
+    say(b", m ", reached.m as u64);
+    io::write_all(STDOUT_FILENO, b":");
     say_shaft(reached, 0);
     say_shaft(reached, 1);
     say_shaft(reached, 2);

@@ -20,7 +20,7 @@ use Rattle.entries.specs.declared.Entry.{Entry}
 use Rattle.entries.specs.Entries.{isLift, entryFault, afterEntry}
 use Rattle.entries.proofs.Comparing.{True, none-true, after-lift, after-sighting}
 use Rattle.logs.specs.Following.{Following, oneMore, noneTrue, entriesOf, followFrom, lengthFault, follow}
-use Rattle.logs.specs.Truth.{liftsOf}
+use Rattle.logs.specs.Whole.{liftsOf}
 
 -- an entry that can be true is followed, and counted
 pub follow-goes : (s : Store) (e : Entry) (es : List Entry) → entryFault s e ≡ 0 → followFrom s (e ∷ es) ≡ oneMore (followFrom (afterEntry s e) es)

@@ -4,4 +4,4 @@ pub mod Following
 pub mod Replayed
 pub mod Runs
 pub mod Tracing
-pub mod Truth
+pub mod Whole

@@ -1,4 +1,4 @@
--- A log on which all is true leads where the replay of its lifts does; and "a log of lifts only, all true, is the replay of their bytes": the store, the count and the
+-- A log on which all is true leads where the replay of its lifts does; and a log of lifts only, all true, is the replay of their bytes: the store, the count and the
 -- cassettes carried, which are the numbers that it names.
 use borrow.Author.Tests.{eq-eqb}
 use mathlib.Core.List.{List, [], _∷_}
@@ -22,10 +22,10 @@ use Rattle.entries.specs.declared.Entry.{Entry}
 use Rattle.entries.specs.Entries.{afterEntry}
 use Rattle.entries.proofs.Comparing.{true-none, after-lift}
 use Rattle.logs.specs.Following.{Following, entriesOf, followFrom, follow}
-use Rattle.logs.specs.Truth.{liftsOf, TrueEntries, LiftsOnly, asReplay}
+use Rattle.logs.specs.Whole.{liftsOf, TrueEntries, LiftsOnly, asReplay}
 use Rattle.logs.proofs.Following.{follow-goes, after-shaped, follow-entries}
 use Rattle.logs.proofs.Runs.{length-entries}
-use Rattle.logs.proofs.Truth.{first-true, accepted-true, accepted-count, follow-leads}
+use Rattle.logs.proofs.Whole.{first-true, accepted-true, accepted-count, follow-leads}
 
 -- a replay whose first lift is allowed
 replay-first : (s : Store) (a b : ℕ) (bs : List ℕ) → b < 16 → liftRefusal s a b ≡ 0 → replayFrom s (liftByte a b ∷ bs) ≡ oneMore (topOf s a) (replayFrom (lifted s a b) bs)

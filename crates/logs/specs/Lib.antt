@@ -1,4 +1,4 @@
 pub mod Following
 pub mod Numbers
 pub mod Promises
-pub mod Truth
+pub mod Whole

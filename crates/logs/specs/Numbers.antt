@@ -1,4 +1,4 @@
--- Document 02's number for each end of a log, and document 01's for a refused store; 0 where all entries are true.
+-- Document 01's number, or document 02's, for each end of a log; 0 where all entries are true.
 use Prim.Native.Nat.{ℕ}
 use Rattle.store.specs.Numbers.{faultNumber}
 use Rattle.entries.specs.Numbers.{untrueNumber}

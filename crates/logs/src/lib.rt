@@ -23,14 +23,14 @@ pub enum LogEnd {
     StoreRefused(Fault),
 }
 
-// The store reached; the place of the first entry that can't be true, counted from 0, or the count of entries where all can; and how it ended.
+// The store reached; the place of the first entry that can't be true, counted from 0, or the count of entries where all can, 0 for a refused store; and how it ended.
 pub struct Followed {
     pub store: Store,
     pub entry: usize,
     pub end: LogEnd,
 }
 
-// The entry, and how it ended, of a log followed in place.
+// The entry, and how it ended, of a log followed in place; the store is accepted, and so not refused.
 pub struct Traced {
     pub entry: usize,
     pub end: LogEnd,

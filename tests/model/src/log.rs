@@ -316,7 +316,7 @@ mod tests {
         assert_eq!((none.count, none.number, none.store), (0, 0, start));
     }
 
-    /// "A log is accepted exactly if nothing in it is 19, every lift is legal and each number is the one the store shows": of lifts alone it goes as a replay of
+    /// "A log on an accepted store is accepted exactly if nothing in it is 19, every lift is legal and each number is the one the store shows": of lifts alone it goes as a replay of
     /// them does, where they name what is carried.
     #[test]
     fn lifts_as_a_replay_does_them() {

@@ -150,7 +150,7 @@ pub fn meaning(number: u8) -> &'static str {
             "the form can't hold the store: forms 0 and 1 no cassette from 255 to 4094, \
              form 0 no unequal depths"
         }
-        19 => "a log of a wrong length, or an entry that is none",
+        19 => "the length of the log, or an entry of it, is malformed",
         20 => "the number is not the one that the store shows",
         _ => "which nothing gets here",
     }
@@ -516,8 +516,7 @@ mod tests {
         assert_eq!(said.wrong.as_deref(), Some(wrong));
         let cut = Scratch::holding("cut-log", &[0x10, 0x00]);
         let said = run(&["log", EXAMPLE, &cut.0]).unwrap();
-        let wrong = "the log can't be followed: 19, a log of a wrong length, \
-                     or an entry that is none: 2 is no multiple of 3";
+        let wrong = "the log can't be followed: 19, its length, 2, is no multiple of 3";
         assert_eq!(said.wrong.as_deref(), Some(wrong));
         let entries = Scratch::holding("no-entries", b"0>1 2\n0>1 two\n");
         let wrong = run(&["log", "--write", &entries.0]).unwrap_err();

@@ -25,7 +25,10 @@ fn entries_followed(start: &Store, entries: &[Entry]) -> Said {
     }
     let count = entries.len();
     if end.number == 0 {
-        let head = format!("after {count} entries, all true");
+        let head = match count {
+            1 => "after 1 entry, which is true".to_string(),
+            _ => format!("after {count} entries, all true"),
+        };
         return Said {
             text: parts(&lines, &head, &end.store),
             wrong: None,
@@ -45,10 +48,7 @@ fn entries_followed(start: &Store, entries: &[Entry]) -> Said {
 
 /// No entry is looked at.
 fn wrong_length(start: &Store, length: usize) -> Said {
-    let why = format!(
-        "19, {}: {length} is no multiple of {ENTRY_BYTES}",
-        meaning(19)
-    );
+    let why = format!("19, its length, {length}, is no multiple of {ENTRY_BYTES}");
     Said {
         text: parts("", "as it came", start),
         wrong: Some(format!("the log can't be followed: {why}")),
@@ -62,7 +62,7 @@ fn parts(lines: &str, head: &str, store: &Store) -> String {
     format!("{lines}{gap}{head}\n{drawn}")
 }
 
-/// An entry as a text of a log has it, and what there is to say as a comment, so that the line can be copied into one.
+/// An entry as a text of a log has it, where a text has such entries, and what there is to say as a comment, so that the line can be copied into one.
 fn line(entry: Entry, place: usize, said: &str) -> String {
     format!("{:<12} # {place}: {said}\n", log_text::write(entry))
 }
@@ -252,10 +252,9 @@ b is a blank, cassette number {BLANK}
         for length in [1, 2, 4, 5] {
             let said = run(&start, &packed("0>1 1\n1>0 1\n")[..length]);
             assert_eq!(said.text, format!("as it came\n{drawn}"));
-            let wrong = said.wrong.unwrap();
-            let end = format!(": {length} is no multiple of 3");
-            assert!(wrong.starts_with("the log can't be followed: 19, "));
-            assert!(wrong.ends_with(&end), "{wrong}");
+            let why = format!("19, its length, {length}, is no multiple of 3");
+            let wrong = format!("the log can't be followed: {why}");
+            assert_eq!(said.wrong, Some(wrong));
         }
         let said = run(&start, &[]);
         assert_eq!(said.text, format!("after 0 entries, all true\n{drawn}"));

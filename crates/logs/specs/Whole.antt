@@ -28,7 +28,7 @@ pub record Legal (s : Store) (bs : List ℕ) : Type 0 where
   pub to : Store
   pub leads : Leads s bs to
 
--- Entries are all true of a store.
+-- Entries are all true of a store. The store that shows the number of entry i is the one that the lifts before it lead to, t: there is one, since all of them are legal.
 pub record TrueEntries (s : Store) (es : List Entry) : Type 0 where
   pub formed : (i : ℕ) → i < length es → Formed (s .m) (entryAt es i)
   pub legal : Legal s (liftsOf es)
@@ -39,12 +39,13 @@ pub record TrueLog (s : Store) (log : List ℕ) : Type 0 where
   pub whole : length log % entryBytes ≡ 0
   pub entries : TrueEntries s (entriesOf log)
 
--- The first entry that can't be true, k: those before it are all true, and it isn't of the store that their lifts lead to.
+-- Entry k is the first that can't be true: those before it are all true, their lifts lead to t, and there it has the number n.
 pub record StopsAt (s : Store) (es : List Entry) (k : ℕ) (t : Store) (n : ℕ) : Type 0 where
   pub there : k < length es
   pub before : TrueEntries s (take k es)
   pub leads : Leads s (liftsOf (take k es)) t
   pub fault : entryFault t (entryAt es k) ≡ n
+  pub untrue : n ≡ 0 → ⊥
 
 -- only lifts
 abbrev pub LiftsOnly : List Entry → Type 0

@@ -18,8 +18,8 @@ use Rattle.store.proofs.Acceptance.{accepted-shaped}
 use Rattle.entries.specs.declared.Entry.{Entry}
 use Rattle.entries.specs.Entries.{Formed, entryFault, afterEntry}
 use Rattle.entries.proofs.Comparing.{True, none-true, true-none, after-lift, after-sighting}
-use Rattle.logs.specs.Following.{Following, entriesOf, followFrom, follow}
-use Rattle.logs.specs.Truth.{entryAt, liftsOf, TrueEntries, TrueLog, StopsAt}
+use Rattle.logs.specs.Following.{Following, oneMore, noneTrue, entriesOf, followFrom, follow}
+use Rattle.logs.specs.Whole.{entryAt, liftsOf, TrueEntries, TrueLog, StopsAt}
 use Rattle.logs.proofs.Following.{follow-goes, follow-stops, follow-wrong, follow-entries, after-shaped, after-leads, followed-leads}
 use Rattle.logs.proofs.Runs.{length-entries}
 
@@ -44,7 +44,7 @@ module _ (s : Store) (e : Entry) where
           let j : entered (liftByte a b) ≡ b = omega arith in
           (rw (i, j) at q, rw (i, j) at r)
 
--- no lift leads nowhere else
+-- the empty list leads to the store itself
 stays : {s t : Store} → Leads s [] t → s ≡ t
 stays ended = refl
 
@@ -121,9 +121,23 @@ stops-at s (e ∷ es) p n =
             before = true-first s e (take (o .entry) es) p q (r .before);
             leads = after-leads s e (take (o .entry) es) p q (r .leads);
             fault = r .fault;
+            untrue = r .untrue;
           }))
-      | no m ↦ rw (follow-stops s e es _ refl m) (record { there = omega arith; before = followed-true s [] p refl; leads = ended; fault = refl })
+      | no m ↦ rw (follow-stops s e es _ refl m) (record { there = omega arith; before = followed-true s [] p refl; leads = ended; fault = refl; untrue = m })
     ]
+
+-- and only there: the place, the store and the number of the first entry that can't be true are those handed back
+pub stopped-there : (s : Store) (es : List Entry) (k : ℕ) {t : Store} {n : ℕ} → Shaped s → StopsAt s es k t n → followFrom s es ≡ record { reached = t; entry = k; number = n }
+unfolding liftsOf
+stopped-there s [] k p q = absurd (let h = q .there in omega arith)
+stopped-there s (e ∷ es) zero {t} {n} p q =
+    let same = stays (q .leads) in
+    follow-stops s e es n (ap (λ (u : Store). entryFault u e) same ∙ q .fault) (q .untrue) ∙ ap (λ (u : Store). noneTrue u n) same
+stopped-there s (e ∷ es) (suc k) p q =
+    let r = first-true s e (take k es) p (q .before) in
+    let f = r .0 in
+    let rest : StopsAt (afterEntry s e) es k _ _ = record { there = omega (arith, q .there); before = r .1; leads = leads-after s e (take k es) (f .formed) (p .shafts) (q .leads) .1; fault = q .fault; untrue = q .untrue } in
+    follow-goes s e es (true-none s e f) ∙ ap oneMore (stopped-there (afterEntry s e) es k (after-shaped s e p f) rest)
 
 -- A log on an accepted store, whole.
 module _ (s : Store) (log : List ℕ) (p : Accepted s) where
@@ -134,9 +148,12 @@ module _ (s : Store) (log : List ℕ) (p : Accepted s) where
         | no n ↦ absurd (let z : _≡_ {A = ℕ} 19 0 = rw (follow-wrong s log p n) at f in omega arith)
       ]
 
-  -- a log that is not accepted, of a length that is right
+  -- a log of a right length that is not accepted, and the other way
   pub refused-stops : length log % 3 ≡ 0 → let o = follow s log in (o .number ≡ 0 → ⊥) → StopsAt s (entriesOf log) (o .entry) (o .reached) (o .number)
   refused-stops z n = let f = follow-entries s log p z in rw f (stops-at s (entriesOf log) (accepted-shaped s p) (rw f at n))
+
+  pub stops-refused : length log % 3 ≡ 0 → (k : ℕ) {t : Store} {n : ℕ} → StopsAt s (entriesOf log) k t n → follow s log ≡ record { reached = t; entry = k; number = n }
+  stops-refused z k q = follow-entries s log p z ∙ stopped-there s (entriesOf log) k (accepted-shaped s p) q
 
   -- whatever the log, the lifts before the entry handed back lead to the store handed back
   pub follow-leads : let o = follow s log in Leads s (liftsOf (take (o .entry) (entriesOf log))) (o .reached)
