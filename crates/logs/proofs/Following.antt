@@ -1,25 +1,21 @@
 -- How a log is followed, one entry after the other; and what its lifts lead to.
 use mathlib.Core.List.{List, [], _∷_}
-use mathlib.Core.Path.{_≡_, refl, sym, ap, _∙_, subst}
-use Prim.Native.Nat.{ℕ, zero, suc, _%_, _≤_, _<_}
+use mathlib.Core.Path.{_≡_, refl, sym, subst}
+use Prim.Native.Nat.{ℕ, zero, suc, _%_}
 use borrow.Author.Tests.{eq-eqb, ne-eqb}
 use native.Mathlib.Decide.{ℕ-discrete}
 use native.Mathlib.Omega.{arith}
 use lib.ListN.{length, take}
-use Rattle.marks.specs.Cassettes.{first}
-use Rattle.marks.proofs.Faulted.{first-stays}
-use Rattle.lifts.specs.Bytes.{liftByte}
 use Rattle.store.specs.declared.Store.{Store}
 use Rattle.store.specs.Accept.{storeFault, Accepted}
-use Rattle.store.specs.Lists.{Leads, ended, then}
+use Rattle.store.specs.Lists.{Leads, ended}
 use Rattle.store.specs.Sound.{Shaped}
-use Rattle.store.proofs.Acceptance.{accepted-shaped}
 use Rattle.store.proofs.Played.{lift-then}
 use Rattle.store.proofs.Views.{lifted-shaped}
 use Rattle.entries.specs.declared.Entry.{Entry}
-use Rattle.entries.specs.Entries.{isLift, entryFault, afterEntry}
+use Rattle.entries.specs.Entries.{entryFault, afterEntry}
 use Rattle.entries.proofs.Comparing.{True, none-true, after-lift, after-sighting}
-use Rattle.logs.specs.Following.{Following, oneMore, noneTrue, entriesOf, followFrom, lengthFault, follow}
+use Rattle.logs.specs.Following.{oneMore, noneTrue, entriesOf, followFrom, follow}
 use Rattle.logs.specs.Whole.{liftsOf}
 
 -- an entry that can be true is followed, and counted

@@ -1,7 +1,7 @@
 -- How the functions that follow a log answer: a log followed from its middle, and the outcome for each way to end.
 use mathlib.Core.List.{List, _∷_}
-use mathlib.Core.Path.{_≡_, refl, sym, ap, _∙_, subst}
-use Prim.Native.Nat.{ℕ, suc, _+_, _-_, _*_, _/_, _%_, _≤_, _<_}
+use mathlib.Core.Path.{_≡_, refl, sym, ap, _∙_}
+use Prim.Native.Nat.{ℕ, suc, _+_, _*_, _/_, _%_, _≤_, _<_}
 use native.Mathlib.Numerals.{add-one}
 use native.Mathlib.Omega.{arith}
 use lib.ListN.{length, drop, length-drop}
@@ -16,7 +16,7 @@ use Rattle.store.proofs.Checks.{fault-one}
 use Rattle.entries.specs.declared.Truth.{Truth}
 use Rattle.entries.specs.declared.Entry.{Entry}
 use Rattle.entries.specs.declared.Untrue.{Untrue}
-use Rattle.entries.specs.Entries.{entryIn, entryFault, afterEntry}
+use Rattle.entries.specs.Entries.{entryIn, entryFault}
 use Rattle.entries.specs.Numbers.{untrueNumber, truthNumber}
 use Rattle.entries.specs.Promises.{EntryIs}
 use Rattle.entries.proofs.Comparing.{none-true}

@@ -9,7 +9,6 @@ use lifts::Slots;
 use store::Fault;
 use store::Store;
 use store::Verdict;
-ghost use mathlib.Core.Path.{_≡_};
 ghost use Rattle.store.specs.Accept.{Accepted};
 ghost use Rattle.store.specs.Slots.{held};
 ghost use Rattle.store.specs.Sound.{Shaped};

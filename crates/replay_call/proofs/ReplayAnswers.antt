@@ -1,6 +1,6 @@
 -- The answer of a replay on an image that was read: the store reached, to which lifts lead, handed back.
 use mathlib.Core.List.{List}
-use mathlib.Core.Path.{_≡_, sym, ap, ap₂, _∙_, subst}
+use mathlib.Core.Path.{_≡_, sym, ap₂, _∙_, subst}
 use Prim.Native.Nat.{ℕ, _<_}
 use lib.ListN.{length, getD}
 use Rattle.store.specs.declared.Store.{Store}

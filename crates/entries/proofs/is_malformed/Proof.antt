@@ -1,5 +1,4 @@
 -- `is_malformed` meets its contract: each reason for 19.
-use native.Mathlib.Omega.{arith}
 use Rattle.entries.proofs.Comparing.{kind-above, shaft-past, second-past, sighting-second, lift-twice}
 use Rattle.entries.proofs.is_malformed.Statement.{statement}
 use Rattle.entries.proofs.is_malformed.Tie as tie

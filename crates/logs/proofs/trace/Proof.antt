@@ -1,5 +1,4 @@
 -- `trace` meets its contract: a wrong length, or the entries.
-use mathlib.Core.Path.{sym}
 use Rattle.store.specs.Slots.{held}
 use Rattle.store.proofs.Acceptance.{accepted-shaped}
 use Rattle.logs.proofs.Following.{follow-entries}
