@@ -1,5 +1,5 @@
 -- What the C calls promise that hand a store back as an image (document 01, "The image": "A replay called from C writes the store reached as an image, always as long as
--- the one given; 10 comes there before any lift is tried"; document 02, 8/13: it "writes in the form of the image given"). A log is followed so too.
+-- the one given; 10 comes there before any lift is tried"; document 02, 8/13: it "writes in the form of the image given"). A log that is followed (9/13) is answered so too.
 use mathlib.Core.List.{List}
 use mathlib.Core.Path.{_≡_}
 use Prim.Native.Nat.{ℕ}

@@ -76,17 +76,22 @@ module _ (s : Store) (e : Entry) (es : List Entry) (p : Shaped s) where
         },
       )
 
+-- where entries are followed to their end, nothing is said against the first
+first-free : (s : Store) (e : Entry) (es : List Entry) → followFrom s (e ∷ es) .number ≡ 0 → entryFault s e ≡ 0
+first-free s e es f =
+    elim (ℕ-discrete (entryFault s e) 0) [
+      | yes z ↦ z
+      | no n ↦ sym (ap (λ (o : Following). o .number) (follow-stops s e es _ refl n)) ∙ f
+    ]
+
 -- entries that are followed to their end are all true, and are followed to their end where they are
 pub followed-true : (s : Store) (es : List Entry) → Shaped s → followFrom s es .number ≡ 0 → TrueEntries s es
 unfolding followFrom liftsOf
 followed-true s [] p f = record { formed = λ i h. absurd (omega arith); legal = record { to = s; leads = ended }; shown = λ i t h. absurd (omega arith) }
 followed-true s (e ∷ es) p f =
-    elim (ℕ-discrete (entryFault s e) 0) [
-      | yes z ↦
-          (let q = none-true s e z in
-          true-first s e es p q (followed-true (afterEntry s e) es (after-shaped s e p q) (sym (ap (λ (o : Following). o .number) (follow-goes s e es z)) ∙ f)))
-      | no n ↦ absurd (n (sym (ap (λ (o : Following). o .number) (follow-stops s e es _ refl n)) ∙ f))
-    ]
+    let z = first-free s e es f in
+    let q = none-true s e z in
+    true-first s e es p q (followed-true (afterEntry s e) es (after-shaped s e p q) (rw (follow-goes s e es z) at f))
 
 pub true-followed : (s : Store) (es : List Entry) → Shaped s → TrueEntries s es → followFrom s es .number ≡ 0
 unfolding followFrom
@@ -99,11 +104,7 @@ true-followed s (e ∷ es) p q =
 pub all-counted : (s : Store) (es : List Entry) → followFrom s es .number ≡ 0 → followFrom s es .entry ≡ length es
 unfolding followFrom
 all-counted s [] f = refl
-all-counted s (e ∷ es) f =
-    elim (ℕ-discrete (entryFault s e) 0) [
-      | yes z ↦ (let g = follow-goes s e es z in rw g (ap suc (all-counted (afterEntry s e) es (rw g at f))))
-      | no n ↦ absurd (n (sym (ap (λ (o : Following). o .number) (follow-stops s e es _ refl n)) ∙ f))
-    ]
+all-counted s (e ∷ es) f = let g = follow-goes s e es (first-free s e es f) in rw g (ap suc (all-counted (afterEntry s e) es (rw g at f)))
 
 -- else it is stopped at the first that can't be true
 pub stops-at : (s : Store) (es : List Entry) → Shaped s → let o = followFrom s es in (o .number ≡ 0 → ⊥) → StopsAt s es (o .entry) (o .reached) (o .number)
@@ -148,6 +149,14 @@ module _ (s : Store) (log : List ℕ) (p : Accepted s) where
         | no n ↦ absurd (let z : _≡_ {A = ℕ} 19 0 = rw (follow-wrong s log p n) at f in omega arith)
       ]
 
+  pub true-accepted : TrueLog s log → follow s log .number ≡ 0
+  true-accepted q = rw (follow-entries s log p (q .whole)) (true-followed s (entriesOf log) (accepted-shaped s p) (q .entries))
+
+  pub accepted-count : follow s log .number ≡ 0 → follow s log .entry ≡ length log / 3
+  accepted-count f =
+      let e = follow-entries s log p (accepted-true f .whole) in
+      ap (λ (o : Following). o .entry) e ∙ all-counted s (entriesOf log) (rw e at f) ∙ length-entries log
+
   -- a log of a right length that is not accepted, and the other way
   pub refused-stops : length log % 3 ≡ 0 → let o = follow s log in (o .number ≡ 0 → ⊥) → StopsAt s (entriesOf log) (o .entry) (o .reached) (o .number)
   refused-stops z n = let f = follow-entries s log p z in rw f (stops-at s (entriesOf log) (accepted-shaped s p) (rw f at n))
@@ -163,11 +172,3 @@ module _ (s : Store) (log : List ℕ) (p : Accepted s) where
         | yes z ↦ rw (follow-entries s log p z) (followed-leads s (entriesOf log) (accepted-shaped s p))
         | no n ↦ rw (follow-wrong s log p n) ended
       ]
-
-  pub accepted-count : follow s log .number ≡ 0 → follow s log .entry ≡ length log / 3
-  accepted-count f =
-      let e = follow-entries s log p (accepted-true f .whole) in
-      ap (λ (o : Following). o .entry) e ∙ all-counted s (entriesOf log) (rw e at f) ∙ length-entries log
-
-  pub true-accepted : TrueLog s log → follow s log .number ≡ 0
-  true-accepted q = rw (follow-entries s log p (q .whole)) (true-followed s (entriesOf log) (accepted-shaped s p) (q .entries))
