@@ -67,7 +67,7 @@ module _ (m : ℕ) (e : Entry) where
         | no n ↦ sym (lift-twice (p .kinds) (p .below) (p .second-below) n) ∙ ne-eqb (e .shaft .0) (e .second .0) (p .lift (omega (arith, p .kinds)))
       ]
 
-  -- 11 is in 19
+  -- what is 11 of a lift is 19 of an entry
   pub never-eleven : (d left entered : ℕ) → Formed m e → e .kind ≡ 0 → refusalBy m d (e .shaft .0) (e .second .0) left entered ≡ 11 → ⊥
   unfolding refusalBy
   never-eleven d left entered p z h =

@@ -55,7 +55,7 @@ pub record Formed (m : ℕ) (e : Entry) : Type 0 where
 abbrev pub numberDue : Store → Entry → ℕ
 numberDue s e = topOf s (e .shaft .0)
 
--- The number that says why an entry can't be true of a store, 0 where it can: 19, then of a lift 13 and 14 (11 is in 19), then "20, a wrong number, tested after
+-- The number that says why an entry can't be true of a store, 0 where it can: 19, then of a lift 13 and 14 (what is 11 of a single lift is 19 here), then "20, a wrong number, tested after
 -- 19, 13 and 14".
 unfoldable pub entryFault : Store → Entry → ℕ
 unfolding malformed liftRefusal

@@ -7,7 +7,7 @@ use Prim.Native.Nat.{ℕ, suc, _<_}
 use native.Mathlib.Omega.{arith}
 use lib.ListN.{take}
 use lib.Seq.{take-all}
-use Rattle.lifts.specs.Bytes.{left, entered, liftByte}
+use Rattle.lifts.specs.Bytes.{liftByte}
 use Rattle.store.specs.declared.Store.{Store}
 use Rattle.store.specs.Accept.{Accepted}
 use Rattle.store.specs.Lifts.{liftRefusal, lifted}
@@ -24,15 +24,14 @@ use Rattle.entries.proofs.Comparing.{true-none, after-lift}
 use Rattle.logs.specs.Following.{Following, entriesOf, followFrom, follow}
 use Rattle.logs.specs.Whole.{liftsOf, TrueEntries, LiftsOnly, asReplay}
 use Rattle.logs.proofs.Following.{follow-goes, after-shaped, follow-entries}
-use Rattle.logs.proofs.Runs.{length-entries}
+use Rattle.logs.proofs.Runs.{length-entries, byte-shafts}
 use Rattle.logs.proofs.Whole.{first-true, accepted-true, accepted-count, follow-leads}
 
 -- a replay whose first lift is allowed
 replay-first : (s : Store) (a b : ℕ) (bs : List ℕ) → b < 16 → liftRefusal s a b ≡ 0 → replayFrom s (liftByte a b ∷ bs) ≡ oneMore (topOf s a) (replayFrom (lifted s a b) bs)
 replay-first s a b bs h z =
-    let i : left (liftByte a b) ≡ a = omega arith in
-    let j : entered (liftByte a b) ≡ b = omega arith in
-    replay-goes s (liftByte a b) bs (rw (i, j) z) ∙ rw (i, j)
+    let i = byte-shafts a b h in
+    replay-goes s (liftByte a b) bs (rw (i .0, i .1) z) ∙ rw (i .0, i .1)
 
 lifts-replayed : (s : Store) (es : List Entry) → Shaped s → LiftsOnly es → TrueEntries s es → replayFrom s (liftsOf es) ≡ asReplay (followFrom s es) es
 unfolding liftsOf followFrom replayFrom

@@ -1,4 +1,4 @@
--- The entries of a log: one for each three bytes, in their order.
+-- The entries of a log: one for each three bytes, in their order. And the byte of a lift in it.
 use mathlib.Core.Bool.{Bool}
 use mathlib.Core.List.{List, [], _∷_}
 use mathlib.Core.Path.{_≡_, refl, sym, ap, ap₂, _∙_}
@@ -8,6 +8,7 @@ use lib.ListN.{length, take, drop, length-drop}
 use lib.Seq.{take-all, drop-at, drop-drop}
 use Rattle.bits.specs.Fields.{bits, packed, bitsOf}
 use Rattle.bits.proofs.Widths.{length-bits}
+use Rattle.lifts.specs.Bytes.{left, entered, liftByte}
 use Rattle.entries.specs.declared.Entry.{Entry}
 use Rattle.entries.specs.Entries.{entryIn}
 use Rattle.logs.specs.Following.{entriesIn, entriesOf}
@@ -47,3 +48,7 @@ length-entries log = go (length log / 3) (bitsOf log)
     go : (k : ℕ) (l : List Bool) → length (entriesIn k l) ≡ k
     go zero l = refl
     go (suc k) l = ap suc (go k (drop 24 l))
+
+-- the shafts of a lift's byte
+pub byte-shafts : (a b : ℕ) → b < 16 → (left (liftByte a b) ≡ a) × (entered (liftByte a b) ≡ b)
+byte-shafts a b h = (omega arith, omega arith)

@@ -7,7 +7,7 @@ use Prim.Native.Nat.{ℕ, zero, suc, _/_, _%_, _≤_, _<_}
 use native.Mathlib.Decide.{ℕ-discrete}
 use native.Mathlib.Omega.{arith}
 use lib.ListN.{length, take}
-use Rattle.lifts.specs.Bytes.{left, entered, liftByte}
+use Rattle.lifts.specs.Bytes.{liftByte}
 use Rattle.store.specs.declared.Store.{Store}
 use Rattle.store.specs.Accept.{Accepted}
 use Rattle.store.specs.Lifts.{Allowed, lifted}
@@ -21,7 +21,7 @@ use Rattle.entries.proofs.Comparing.{True, none-true, true-none, after-lift, af
 use Rattle.logs.specs.Following.{Following, oneMore, noneTrue, entriesOf, followFrom, follow}
 use Rattle.logs.specs.Whole.{entryAt, liftsOf, TrueEntries, TrueLog, StopsAt}
 use Rattle.logs.proofs.Following.{follow-goes, follow-stops, follow-wrong, follow-entries, after-shaped, after-leads, followed-leads}
-use Rattle.logs.proofs.Runs.{length-entries}
+use Rattle.logs.proofs.Runs.{length-entries, byte-shafts}
 
 module _ (s : Store) (e : Entry) where
   -- a followed entry changes no shaft count
@@ -39,10 +39,7 @@ module _ (s : Store) (e : Entry) where
       ]
     where
       first-lift : (a b : ℕ) (bs : List ℕ) → b < 16 → Leads s (liftByte a b ∷ bs) t → Allowed s a b × Leads (lifted s a b) bs t
-      first-lift a b bs h (then q r) =
-          let i : left (liftByte a b) ≡ a = omega arith in
-          let j : entered (liftByte a b) ≡ b = omega arith in
-          (rw (i, j) at q, rw (i, j) at r)
+      first-lift a b bs h (then q r) = let i = byte-shafts a b h in (rw (i .0, i .1) at q, rw (i .0, i .1) at r)
 
 -- the empty list leads to the store itself
 stays : {s t : Store} → Leads s [] t → s ≡ t
