@@ -22,7 +22,7 @@ next_on {l} {t} o h = go o.above o.split (omega (arith, simp length-append at (a
     go : {t : List ℕ} (k : List ℕ) → t ≡ k ++ l → 0 < length k → (x : ℕ) × Onto (x ∷ l) t
     go [] e n = absurd (omega arith)
     go (x ∷ []) e n = (x, onto_same e)
-    go (x ∷ y ∷ k) e n = let u = go (y ∷ k) refl (omega arith) in (u.0, onto_then u.1 (record { above = x ∷ []; split = e }))
+    go {t = t'} (x ∷ y ∷ k) e n = let u = go {t = (y ∷ k) ++ l} (y ∷ k) refl (omega arith) in (u.0, onto_then u.1 (record { above = x ∷ []; split = e }))
 
 -- A shaft other than a and b.
 third : (m : ℕ) → 3 ≤ m → (a b : ℕ) → (c : ℕ) × (Usable m c × (c ≢ a) × (c ≢ b))

@@ -60,7 +60,7 @@ shift_leads {a = a} {b} {S = S} {T} n ha hb (x ∷ xs) ea eb h kept =
       room = omega (arith, simp length-reverse_aux at (ap length eb));
       kept = others;
     })
-    (shift_leads n ha hb xs ua (rw ub eb) h (λ i na nb. kept i na nb ∙ sym (others i na nb)))
+    (shift_leads {S = put_two S a (xs ++ T a) b (x ∷ S b)} n ha hb xs ua (rw ub eb) h (λ i na nb. kept i na nb ∙ sym (others i na nb)))
 
 -- Where a and b read the same in S and in T, a has k more in S, and the other shafts are the same, k lifts from a to b lead from S to T.
 pub shift_along : {m a b : ℕ} {d : ℕ → ℕ} {S T : Stacks} (k : ℕ) → (a ≡ b → ⊥) → a < m → b < m → length (S a) ≡ k + length (T a)
