@@ -2,8 +2,8 @@
  * How a controller uses Halyardgage: check two images, ask whether the goal
  * can be reached, plan the lifts, and replay them. Then how deep some cassettes
  * are buried, a store with blanks, shafts of unequal depth, numbers past 255,
- * conversions from form to form, what the changer's log says, plans that leave
- * some shafts alone, and some of the ways in which a call is refused.
+ * conversions from form to form, what the changer's log says, and some of the
+ * ways in which a call is refused.
  *
  *     cc -Iinclude examples/controller.c -Ltarget/staticlib -lhalyardgage
  */
@@ -147,7 +147,6 @@ static const char *meaning(int number)
     case HALYARD_FORM_CANNOT_HOLD: return "the form can't hold the store";
     case HALYARD_LOG_MALFORMED: return "the log's length or an entry is wrong";
     case HALYARD_LOG_NUMBER: return "the store shows another number";
-    case HALYARD_SHAFT_SETS: return "a set of shafts, or a row of them, is wrong";
     default: return "a number that no call returns";
     }
 }
@@ -423,89 +422,6 @@ static int logs(void)
     return as_reported;
 }
 
-/* Asks for a list that leaves all shafts but the open ones alone, and replays
- * it. Gives whether it ended at the goal. */
-static int planned_within(const struct image *start, const struct image *goal,
-                          uint16_t open)
-{
-    static uint8_t list[HALYARD_LIST_MAX];
-    struct image end;
-    uint64_t answer = halyard_reachable_within(start->bytes, start->len,
-                                               goal->bytes, goal->len, open);
-    printf("open       %04X\n", (unsigned)open);
-    if (!good("reachable", answer, "yes")) {
-        return 0;
-    }
-    answer = halyard_plan_within(start->bytes, start->len, goal->bytes,
-                                 goal->len, open, list, sizeof list);
-    if (!good("plan", answer, "a list")) {
-        return 0;
-    }
-    end = replayed(start, list, (size_t)halyard_count(answer));
-    return same_store(&end, goal);
-}
-
-/* Asks for a list without a lift between groups, done group after group, and
- * prints and replays it. Gives whether it ended at the goal. */
-static int planned_groups(const struct image *start, const struct image *goal,
-                          const uint16_t *groups, size_t groups_len)
-{
-    static uint8_t list[HALYARD_LIST_MAX];
-    struct image end;
-    size_t i;
-    uint64_t answer = halyard_plan_groups(start->bytes, start->len, goal->bytes,
-                                          goal->len, groups, groups_len, list,
-                                          sizeof list);
-    printf("groups    ");
-    for (i = 0; i < groups_len; ++i) {
-        printf(" %04X", (unsigned)groups[i]);
-    }
-    printf("\n");
-    if (!good("plan", answer, "a list")) {
-        return 0;
-    }
-    print_lifts(list, halyard_count(answer));
-    end = replayed(start, list, (size_t)halyard_count(answer));
-    return same_store(&end, goal);
-}
-
-/* Shafts that must not be touched, and shafts in groups: a goal within reach of
- * three open shafts, then two shafts that it is not within reach of, and a set
- * with a shaft that is not there; a goal for three groups, and then without the
- * last group, so that a shaft is missed. Gives whether the goals were reached
- * that can be, and the sets of the header are as they should be. */
-static int locked(void)
-{
-    static const uint16_t cassettes[] = {1, 2, 0, 0, 3, 4, 0, 0, 5, 0};
-    static const uint16_t wanted[] = {1, 0, 2, 0, 3, 4, 0, 0, 5, 0};
-    static const uint16_t both[] = {1, 0, 2, 0, 3, 0, 4, 0, 5, 0};
-    struct image start = pack_even(5, 2, cassettes);
-    struct image goal = pack_even(5, 2, wanted);
-    struct image goals = pack_even(5, 2, both);
-    uint16_t open = halyard_shaft(0) | halyard_shaft(1) | halyard_shaft(4);
-    uint16_t groups[3];
-    int all_good;
-
-    groups[0] = halyard_shaft(2) | halyard_shaft(3);
-    groups[1] = halyard_shaft(0) | halyard_shaft(1);
-    groups[2] = halyard_shaft(4);
-    printf("\nLocked shafts\n");
-    print_store("start", &start);
-    print_store("goal", &goal);
-    all_good = planned_within(&start, &goal, open);
-    planned_within(&start, &goal, groups[0]);
-    planned_within(&start, &goal, halyard_all_shafts(6));
-
-    printf("\nShafts in groups\n");
-    print_store("start", &start);
-    print_store("goal", &goals);
-    all_good &= planned_groups(&start, &goals, groups, 3);
-    planned_groups(&start, &goals, groups, 2);
-    return all_good && halyard_shaft(15) == 0x8000 && halyard_shaft(16) == 0 &&
-           halyard_all_shafts(0) == 0 && halyard_all_shafts(5) == 0x001F &&
-           halyard_all_shafts(16) == 0xFFFF;
-}
-
 /* Plans with nothing lent. */
 static void planned_into_nothing(const struct image *start,
                                  const struct image *goal)
@@ -570,7 +486,6 @@ int main(void)
     all_good &= numbers();
     all_good &= forms();
     all_good &= logs();
-    all_good &= locked();
     refusals(&start, &goal);
     return all_good ? 0 : 1;
 }

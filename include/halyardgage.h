@@ -43,15 +43,6 @@
  * LISTS. A list is bytes, one for each lift: the shaft left in the high four
  * bits, the shaft entered in the low four.
  *
- * SETS. A set of shafts is 16 bits, bit 0, the least, for shaft 0, bit 1 for
- * shaft 1, and so on. halyard_shaft() is the set of one shaft and
- * halyard_all_shafts() that of all; | joins two sets. A set names the shafts
- * that are open: no lift may leave or enter any other. A row of sets divides
- * the shafts into groups: each shaft is in exactly one set of the row, and a
- * set may be empty. No lift may go from one group to another. Of five shafts
- * the set of shafts 0, 2 and 3 is 000D in hexadecimal, and 0003 0000 001C is a
- * row that divides them into shafts 0 and 1, no shaft, and shafts 2, 3 and 4.
- *
  * ORDERS. An order is a record that names a cassette and receives an answer of
  * its own: a number, and a count of lifts. They come in a row. Any 16 bits may
  * be named: 255 is cassette 255, and HALYARD_BLANK is for a blank.
@@ -80,8 +71,7 @@
  * true. If several reasons apply, the first one met is given:
  *   - an image is read field by field, the start before the goal, and a fault
  *     of reading comes before any other;
- *   - for two stores then 8, 9, then 21 for the set or the groups, where the
- *     call takes any, then 15, 10;
+ *   - for two stores then 8, 9, 15, 10;
  *   - for a replay then 10, before any lift is tried, and for each lift 11,
  *     13, 14;
  *   - for a log then 10, then 19 for its length, both before any entry is
@@ -94,14 +84,12 @@
  * length: each writes a store.
  *
  * WHAT THE CALLER OWES
- *   - Each pointer has at least as many bytes, orders or sets as the length
- *     after it says. It may be NULL where that length is 0.
- *   - What a call may write (list of halyard_plan, halyard_plan_within and
- *     halyard_plan_groups, out of halyard_replay, halyard_follow and
- *     halyard_convert, orders of halyard_uncover) overlaps nothing else that is
- *     passed. What is only read may overlap: start and goal may be the same
- *     bytes, and so may image and log.
- *   - groups are aligned as C aligns uint16_t.
+ *   - Each pointer has at least as many bytes, or orders, as the length after
+ *     it says. It may be NULL where that length is 0.
+ *   - What a call may write (list of halyard_plan, out of halyard_replay,
+ *     halyard_follow and halyard_convert, orders of halyard_uncover) overlaps
+ *     nothing else that is passed. Bytes that are only read may overlap: start
+ *     and goal may be the same bytes, and so may image and log.
  *   - orders are aligned as C aligns struct halyard_order, and every field of
  *     every order has some value: whole orders are read and written, a cassette
  *     with the value it had. Which value stands where the answer goes does not
@@ -110,7 +98,7 @@
  *     reads what the call may write.
  * Lent bytes need not be cleared. Nothing else is asked: any bytes may be
  * passed as an image, as a list or as a log, and the answer tells what is none;
- * any 8 bits may be named as a form, and any 16 in an order or as a set.
+ * any 8 bits may be named as a form, and any 16 in an order.
  *
  * The library allocates nothing and keeps nothing between calls, so that any
  * thread may call it at any time.
@@ -159,8 +147,7 @@ enum {
     /* refused because of the state */
     HALYARD_SHAFT_EMPTY = 13, /* the shaft left is empty */
     HALYARD_SHAFT_FULL = 14,  /* the shaft entered is full */
-    HALYARD_UNREACHABLE = 15, /* the goal is not reachable by a list that the
-                                 call allows */
+    HALYARD_UNREACHABLE = 15, /* the goal is not reachable */
 
     /* of an order, in its own record */
     HALYARD_ABSENT = 16, /* the cassette is not in the store, 0 included */
@@ -172,14 +159,10 @@ enum {
                                    entry with a kind above 1, with a shaft not
                                    below m, a sighting with a second shaft, or a
                                    lift with one shaft twice */
-    HALYARD_LOG_NUMBER = 20,    /* the number is not the one that the store
+    HALYARD_LOG_NUMBER = 20     /* the number is not the one that the store
                                    shows: of a lift, the cassette that would be
                                    carried; of a sighting, the top cassette, or
                                    0 for an empty shaft */
-
-    /* of sets of shafts, refused because of the input */
-    HALYARD_SHAFT_SETS = 21 /* a set of shafts has a bit set for a shaft not
-                               below m, or groups overlap or miss a shaft */
 };
 
 /* The kinds of an entry of a log. */
@@ -211,10 +194,9 @@ struct halyard_order {
       ((form) == 2 ? (size_t)12 : (size_t)8) * (size_t)(n) + 7) / 8)
 #define HALYARD_IMAGE_MAX 403
 
-/* The list space that halyard_plan(), halyard_plan_within() and
- * halyard_plan_groups() ask for, in bytes, where the deepest shaft has depth h
- * and there are n cassettes, blanks included, and the most that they ever ask
- * for. All shafts and all cassettes count, whichever shafts are open.
+/* The list space that halyard_plan() asks for, in bytes, where the deepest
+ * shaft has depth h and there are n cassettes, blanks included, and the most
+ * that it ever asks for.
  * (Proved: list-space-most, in crates/store/proofs/Space.antt.) */
 #define HALYARD_LIST_SPACE(h, n) \
     (4 * (size_t)(h) * (size_t)(n) + 8 * (size_t)(n))
@@ -248,20 +230,6 @@ static inline unsigned halyard_left(uint8_t lift)
 static inline unsigned halyard_entered(uint8_t lift)
 {
     return lift % 16u;
-}
-
-/* The set of one shaft, which is below 16. For any other number the set is
- * empty. */
-static inline uint16_t halyard_shaft(unsigned shaft)
-{
-    return shaft < 16u ? (uint16_t)(1u << shaft) : (uint16_t)0;
-}
-
-/* The set of all of m shafts, those below m. m is at most 16; a greater one is
- * taken as 16. */
-static inline uint16_t halyard_all_shafts(unsigned m)
-{
-    return m < 16u ? (uint16_t)((1u << m) - 1u) : (uint16_t)0xFFFF;
 }
 
 /* Packs an entry of a log. Of a field that has more bits than the entry has for
@@ -330,79 +298,6 @@ uint64_t halyard_reachable(const uint8_t *start, size_t start_len,
 uint64_t halyard_plan(const uint8_t *start, size_t start_len,
                       const uint8_t *goal, size_t goal_len,
                       uint8_t *list, size_t list_len);
-
-/*
- * Does some list of lifts lead from start to goal in which no lift leaves or
- * enters a shaft that is not open?
- *
- * Reads start and goal. open is the set of the shafts that are open. Writes
- * nothing.
- * Returns HALYARD_OK for yes and HALYARD_UNREACHABLE for no, or the first
- * fault of reading, 1 to 5 or 7, or 8 or 9, or HALYARD_SHAFT_SETS where open
- * has a bit set for a shaft not below m. The count is 0.
- * With no shaft open, or one, the answer is yes for the start itself alone.
- * With all of them open it is that of halyard_reachable(). (Proved: few-open,
- * in crates/within/proofs/Groups.antt, and all-reached, in
- * crates/pair_calls/proofs/CallExact.antt.)
- */
-uint64_t halyard_reachable_within(const uint8_t *start, size_t start_len,
-                                  const uint8_t *goal, size_t goal_len,
-                                  uint16_t open);
-
-/*
- * Writes a list of lifts that leads from start to goal, in which no lift leaves
- * or enters a shaft that is not open.
- *
- * Reads start and goal. open is the set of the shafts that are open. For a list
- * list_len must be at least HALYARD_LIST_SPACE(h, n), with the h and n of the
- * whole store; HALYARD_LIST_MAX is enough for every store.
- * Returns HALYARD_OK and the count of lifts, which is at most
- * HALYARD_LIST_SPACE(h, n); that many of the first bytes of list are then the
- * list, and the rest stay as they came. Start equal to goal gives count 0.
- * Otherwise it writes nothing and returns, with count 0, the first fault of
- * reading, 1 to 5 or 7, or 8, 9, HALYARD_SHAFT_SETS where open has a bit set
- * for a shaft not below m, HALYARD_UNREACHABLE or HALYARD_SPACE.
- * HALYARD_UNREACHABLE says that no such list leads to the goal, however much is
- * lent: a list that uses locked shafts may still do. HALYARD_SPACE says that such a list
- * does: the same call with HALYARD_LIST_SPACE(h, n) bytes gives a list.
- * (Proved: called-inside, fifteen-stays and space-cures, in
- * crates/pair_calls/proofs/CallExact.antt.)
- */
-uint64_t halyard_plan_within(const uint8_t *start, size_t start_len,
-                             const uint8_t *goal, size_t goal_len,
-                             uint16_t open,
-                             uint8_t *list, size_t list_len);
-
-/*
- * Writes a list of lifts that leads from start to goal, in which no lift goes
- * from one group of shafts to another, and all lifts of each group come before
- * those of the groups after it.
- *
- * Reads start, goal and groups, a row of sets in the order in which the groups
- * are to be done; groups_len is a count of sets, not of bytes. For a list
- * list_len must be at least HALYARD_LIST_SPACE(h, n), with the h and n of the
- * whole store; HALYARD_LIST_MAX is enough for every store.
- * Returns HALYARD_OK and the count of lifts, which is at most
- * HALYARD_LIST_SPACE(h, n); that many of the first bytes of list are then the
- * list, and the rest stay as they came. Start equal to goal gives count 0.
- * Otherwise it writes nothing and returns, with count 0, the first fault of
- * reading, 1 to 5 or 7, or 8, 9, HALYARD_SHAFT_SETS where a set has a bit set
- * for a shaft not below m, a shaft is in two sets, or a shaft is in none, or
- * HALYARD_UNREACHABLE or HALYARD_SPACE. An empty set is no fault; without any
- * set every shaft is missed.
- * HALYARD_UNREACHABLE says that no list without a lift between groups leads to
- * the goal, in whichever order its lifts come and however much is lent; so it
- * is where a group has other cassettes in the goal than in the start.
- * HALYARD_SPACE says that such a list does: the same call with
- * HALYARD_LIST_SPACE(h, n) bytes gives a list. (Proved: called-sorted,
- * fifteen-stays and space-cures, in crates/pair_calls/proofs/CallExact.antt;
- * that such a list can be sorted by group, apart-exactly and each-reaches, in
- * crates/within/proofs/Groups.antt.)
- */
-uint64_t halyard_plan_groups(const uint8_t *start, size_t start_len,
-                             const uint8_t *goal, size_t goal_len,
-                             const uint16_t *groups, size_t groups_len,
-                             uint8_t *list, size_t list_len);
 
 /*
  * Does the lifts of a list on a store, and writes the image of the store

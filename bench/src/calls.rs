@@ -39,50 +39,6 @@ pub fn plan(case: &Case, list: &mut [u8]) -> Answer {
     })
 }
 
-/// The yes or no within a set of open shafts.
-pub fn reachable_within(case: &Case, open: u16) -> Answer {
-    let (start, goal) = (&case.start_image, &case.goal_image);
-    // SAFETY: each pointer has as many bytes as are named.
-    Answer::from_bits(unsafe {
-        c::halyard_reachable_within(start.as_ptr(), start.len(), goal.as_ptr(), goal.len(), open)
-    })
-}
-
-/// Plans into a list within a set of open shafts.
-pub fn plan_within(case: &Case, open: u16, list: &mut [u8]) -> Answer {
-    let (start, goal) = (&case.start_image, &case.goal_image);
-    // SAFETY: each pointer has as many bytes as are named, and the list overlaps nothing.
-    Answer::from_bits(unsafe {
-        c::halyard_plan_within(
-            start.as_ptr(),
-            start.len(),
-            goal.as_ptr(),
-            goal.len(),
-            open,
-            list.as_mut_ptr(),
-            list.len(),
-        )
-    })
-}
-
-/// Plans into a list by groups.
-pub fn plan_groups(case: &Case, groups: &[u16], list: &mut [u8]) -> Answer {
-    let (start, goal) = (&case.start_image, &case.goal_image);
-    // SAFETY: each pointer has as many bytes or sets as are named, and the list overlaps nothing.
-    Answer::from_bits(unsafe {
-        c::halyard_plan_groups(
-            start.as_ptr(),
-            start.len(),
-            goal.as_ptr(),
-            goal.len(),
-            groups.as_ptr(),
-            groups.len(),
-            list.as_mut_ptr(),
-            list.len(),
-        )
-    })
-}
-
 /// Replays a list on the start.
 pub fn replay(case: &Case, list: &[u8], out: &mut [u8]) -> Answer {
     let image = &case.start_image;

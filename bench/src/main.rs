@@ -3,11 +3,9 @@
 
 mod calls;
 mod cases;
-mod locked;
 mod plain;
 mod report;
 mod stack;
-mod stacks;
 mod thesis;
 mod timing;
 

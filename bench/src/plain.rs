@@ -4,7 +4,7 @@
 use crate::cases::Case;
 use crate::thesis::{self, Grid};
 use halyard_model::store::{BLANK, NUMBERS};
-use halyard_model::{Store, image, log, play, rule, sets};
+use halyard_model::{Store, image, log, play, rule};
 use halyard_outside::calls::{Answer, Order};
 use halyard_outside::expected;
 
@@ -18,17 +18,6 @@ pub fn reachable(case: &Case) -> Answer {
     let number = match pair(case) {
         Err(number) => number,
         Ok((start, goal)) if rule::reachable(&start, &goal) => 0,
-        Ok(_) => 15,
-    };
-    Answer::of(number, 0)
-}
-
-/// The yes or no within a set of open shafts.
-pub fn reachable_within(case: &Case, open: u16) -> Answer {
-    let number = match pair(case) {
-        Err(number) => number,
-        Ok((start, _)) if sets::fault(start.m(), open).is_some() => 21,
-        Ok((start, goal)) if rule::reachable_within(&start, &goal, open) => 0,
         Ok(_) => 15,
     };
     Answer::of(number, 0)
@@ -214,7 +203,7 @@ mod tests {
     use super::*;
     use crate::calls;
     use halyard_model::Random;
-    use halyard_outside::{inputs, logs, set_inputs};
+    use halyard_outside::{inputs, logs};
 
     /// A pair of stores that may be no pair, often with an image that may be none.
     fn any_case(random: &mut Random) -> Case {
@@ -242,25 +231,6 @@ mod tests {
             assert_eq!(check(&case), calls::check(&case));
             assert_eq!(reachable(&case), calls::reachable(&case));
         }
-    }
-
-    #[test]
-    fn yes_or_no_within_a_set_answers_as_the_c_call() {
-        let mut random = Random::new(58);
-        let mut met = [0; 256];
-        for _ in 0..5_000 {
-            let mut case = any_case(&mut random);
-            let open = set_inputs::open(&mut random, case.start.m());
-            if random.below(2) == 0 {
-                let goal = set_inputs::goal_within(&mut random, &case.start, open);
-                case.goal_image = inputs::image(&mut random, &goal);
-            }
-            let answer = reachable_within(&case, open);
-            assert_eq!(answer, calls::reachable_within(&case, open));
-            met[usize::from(answer.number)] += 1;
-        }
-        let often = [0, 8, 9, 15, 21].iter().all(|&it| met[it] > 50);
-        assert!(often, "{met:?}");
     }
 
     #[test]

@@ -1,9 +1,8 @@
 //! The tables.
 
-use crate::calls::LENT;
+use crate::calls::{self, LENT};
 use crate::cases::{self, Case, Shape};
-use crate::locked::Locked;
-use crate::stacks::Stacks;
+use crate::stack;
 use crate::timing::{self, MOST_IMAGE, MOST_STORES, Measured};
 use halyard_model::Random;
 use halyard_model::image::Form;
@@ -13,10 +12,13 @@ use std::fmt::Write;
 /// How many cases a full search is tried on.
 const SEARCHED: usize = 3;
 
+/// The most stack that a call may use, in bytes.
+const MOST_STACK: usize = 64 << 10;
+
 /// How many entries a log has that is timed.
 const ENTRIES: usize = 1_000;
 
-/// The seven tables, and how they were made.
+/// The six tables, and how they were made.
 pub fn whole(seed: u64, stores: usize, rounds: usize) -> String {
     let mut random = Random::new(seed);
     let mut table = String::from(HEAD);
@@ -25,7 +27,6 @@ pub fn whole(seed: u64, stores: usize, rounds: usize) -> String {
     let mut orders = Orders::default();
     let mut conversions = Conversions::default();
     let mut logs = Logs::default();
-    let mut locked = Locked::default();
     for shape in cases::shapes() {
         let cases = cases::cases(&mut random, &shape, stores);
         let named = cases::orders(&mut Random::new(1), &shape);
@@ -41,7 +42,6 @@ pub fn whole(seed: u64, stores: usize, rounds: usize) -> String {
         if shape.is_largest() {
             orders.add(&shape, &cases, &named, rounds);
             logs.add(&shape, &cases, &followed, rounds);
-            locked.add(&shape, &cases, rounds);
             if shape.e == shape.deepest() {
                 conversions.add(&shape, &cases, rounds);
             }
@@ -50,12 +50,12 @@ pub fn whole(seed: u64, stores: usize, rounds: usize) -> String {
     let notes = notes(seed, stores, rounds);
     let (ratios, orders) = (ratios.table(), orders.table());
     let (conversions, logs) = (conversions.table(), logs.table());
-    let (locked, stacks) = (locked.table(), stacks.table());
-    format!("{notes}\n{table}\n{ratios}\n{orders}\n{conversions}\n{logs}\n{locked}\n{stacks}")
+    let stacks = stacks.table();
+    format!("{notes}\n{table}\n{ratios}\n{orders}\n{conversions}\n{logs}\n{stacks}")
 }
 
 /// A log for each case, from chance of their own, so that the cases do not change with them.
-pub fn logs_of(cases: &[Case]) -> Vec<Vec<u8>> {
+fn logs_of(cases: &[Case]) -> Vec<Vec<u8>> {
     let mut random = Random::new(1);
     let log = |case| cases::log(&mut random, case, ENTRIES);
     cases.iter().map(log).collect()
@@ -119,12 +119,12 @@ fn row(table: &mut String, shape: &Shape, by: &str, measured: &Measured) {
     .expect("a string takes every line");
 }
 
-pub fn microseconds(time: Option<f64>) -> String {
+fn microseconds(time: Option<f64>) -> String {
     decimals(time.map(|time| time / 1000.0))
 }
 
 /// Two decimals, or a dash.
-pub fn decimals(number: Option<f64>) -> String {
+fn decimals(number: Option<f64>) -> String {
     number.map_or("–".into(), |number| format!("{number:.2}"))
 }
 
@@ -179,7 +179,7 @@ impl Ratios {
     }
 }
 
-pub fn ratio(calls: Option<f64>, plain: Option<f64>) -> Option<f64> {
+fn ratio(calls: Option<f64>, plain: Option<f64>) -> Option<f64> {
     Some(calls? / plain?)
 }
 
@@ -299,5 +299,83 @@ whole log, in which reading the image and writing one have a part.
 {}",
             self.rows
         )
+    }
+}
+
+/// The most stack that each call used, in bytes.
+#[derive(Default)]
+struct Stacks {
+    check: usize,
+    reachable: usize,
+    plan: usize,
+    replay: usize,
+    follow: usize,
+    convert: usize,
+    uncover: usize,
+}
+
+impl Stacks {
+    fn add(&mut self, case: &Case, orders: &[Order], log: &[u8]) {
+        let mut orders = orders.to_vec();
+        let mut list = vec![0; LENT];
+        let mut out = vec![0; MOST_IMAGE];
+        let mut count = 0;
+        let check = stack::used_by(|| _ = calls::check(case));
+        let reachable = stack::used_by(|| _ = calls::reachable(case));
+        let plan = stack::used_by(|| count = calls::plan(case, &mut list).count as usize);
+        let replay = stack::used_by(|| _ = calls::replay(case, &list[..count], &mut out));
+        let follow = stack::used_by(|| _ = calls::follow(case, log, &mut out));
+        let image = &case.start_image;
+        let convert = stack::used_by(|| _ = calls::convert(image, 2, &mut out));
+        let uncover = stack::used_by(|| _ = calls::uncover(case, &mut orders));
+        let all = [check, reachable, plan, replay, follow, convert, uncover];
+        assert!(all.iter().all(|&used| used <= MOST_STACK), "{all:?} bytes");
+        self.check = self.check.max(check);
+        self.reachable = self.reachable.max(reachable);
+        self.plan = self.plan.max(plan);
+        self.replay = self.replay.max(replay);
+        self.follow = self.follow.max(follow);
+        self.convert = self.convert.max(convert);
+        self.uncover = self.uncover.max(uncover);
+    }
+
+    fn table(&self) -> String {
+        format!(
+            "\
+The stack that a call uses: the bytes from its entry down to the lowest one it changed, the most over one pair of each
+shape above, found by running it on a stack of its own that was painted before.
+
+| call | bytes |
+|---|--:|
+| halyard_check | {} |
+| halyard_reachable | {} |
+| halyard_plan | {} |
+| halyard_replay | {} |
+| halyard_follow | {} |
+| halyard_convert | {} |
+| halyard_uncover | {} |
+",
+            self.check, self.reachable, self.plan, self.replay, self.follow, self.convert, self.uncover
+        )
+    }
+}
+
+#[cfg(test)]
+mod tests {
+    use super::*;
+
+    /// One pair of each shape, as the table has it: a call that used more would end it.
+    #[test]
+    fn no_call_uses_more_stack_than_it_may() {
+        let mut random = Random::new(2);
+        let mut stacks = Stacks::default();
+        for shape in cases::shapes() {
+            let cases = cases::cases(&mut random, &shape, 1);
+            let orders = cases::orders(&mut random, &shape);
+            stacks.add(&cases[0], &orders, &logs_of(&cases)[0]);
+        }
+        assert!(stacks.table().contains("| halyard_convert | "));
+        assert!(stacks.table().contains("| halyard_follow | "));
+        assert!(stacks.convert > 0 && stacks.follow > 0);
     }
 }

@@ -41,18 +41,18 @@ pub fn search(cases: &[Case], count: usize) -> Option<Measured> {
 }
 
 /// The times of one call on each case, in nanoseconds, one for each round.
-pub struct Clock {
+struct Clock {
     cases: Vec<Vec<f64>>,
 }
 
 impl Clock {
-    pub fn new(cases: usize) -> Clock {
+    fn new(cases: usize) -> Clock {
         Clock {
             cases: vec![Vec::new(); cases],
         }
     }
 
-    pub fn time<T>(&mut self, case: usize, call: impl FnOnce() -> T) {
+    fn time<T>(&mut self, case: usize, call: impl FnOnce() -> T) {
         let begun = Instant::now();
         black_box(call());
         let taken = begun.elapsed();
@@ -60,7 +60,7 @@ impl Clock {
     }
 
     /// The median of the rounds for each case, and the mean of those. None where nothing was timed.
-    pub fn mean_of_medians(self) -> Option<f64> {
+    fn mean_of_medians(self) -> Option<f64> {
         let medians: Vec<f64> = self.cases.into_iter().map(median).collect::<Option<_>>()?;
         Some(medians.iter().sum::<f64>() / medians.len() as f64)
     }

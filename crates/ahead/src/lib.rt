@@ -10,7 +10,7 @@ use lifts::{Heights, Row, Shaft};
 use rooms::{Frame, Lift, Spot, aside, room};
 
 // What stands on the cassette, what stands in its way on the new place, and the room outside the two shafts.
-#[derive(Drop)]
+#[derive(Clone, Copy)]
 pub struct Ahead {
     pub cover: usize,
     pub load: usize,

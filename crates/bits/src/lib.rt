@@ -5,14 +5,14 @@ ghost use Rattle.std.specs.Prelude.{◌≡◌, ◌+◌, ◌-◌, ◌*◌, ◌/�
 ghost use Rattle.bits.specs.Fields.{bits_of, next_field};
 
 // "a thin struct over the caller's image bytes with a bit position"
-#[derive(Drop)]
+#[derive(Clone, Copy)]
 pub struct Reader<'a> {
     pub src: &'a [u8],
     pub at: usize,
 }
 
 // The next field, or that the bytes end before it does.
-#[derive(Drop)]
+#[derive(Clone, Copy)]
 pub enum Field {
     Value(u16),
     Missing,

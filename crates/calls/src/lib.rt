@@ -22,7 +22,7 @@ pub fn refused(number: u8, out: &mut [u8]) -> u64
 }
 
 // An image that was read: the number that refuses it, 0 for none, and its store, the empty one of one shaft of depth 1 where it is refused.
-#[derive(Drop)]
+#[derive(Clone, Copy)]
 pub struct One {
     pub number: u8,
     pub store: Store,
@@ -56,7 +56,7 @@ pub fn read_lent(image: &[u8], lent: usize) -> One
 }
 
 // Two images that were read: the number of the first one that is refused, 0 for none, and their stores where none is.
-#[derive(Drop)]
+#[derive(Clone, Copy)]
 pub struct Both {
     pub number: u8,
     pub start: Store,

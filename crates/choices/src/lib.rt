@@ -15,7 +15,7 @@ use moves::Hints;
 use rooms::{Frame, Spot, usable};
 
 // A round: the shaft that gets its next row, and where the cassette for it stands.
-#[derive(Drop)]
+#[derive(Clone, Copy)]
 pub struct Round {
     pub to: Shaft,
     pub from: Spot,

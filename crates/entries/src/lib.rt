@@ -15,7 +15,7 @@ use lifts::{Heights, Judged, Refusal, Shaft, Slots, carry, height_at, height_of,
 use marks::Cassette;
 
 // "kind (4 bits), shaft (4), second shaft (4), number (12)"
-#[derive(Drop)]
+#[derive(Clone, Copy)]
 pub struct Entry {
     pub kind: u8,
     pub shaft: Shaft,
@@ -24,7 +24,7 @@ pub struct Entry {
 }
 
 // Why an entry can't be true: 19, 13, 14, 20.
-#[derive(Drop)]
+#[derive(Clone, Copy)]
 pub enum Untrue {
     Malformed,
     ShaftEmpty,
@@ -33,7 +33,7 @@ pub enum Untrue {
 }
 
 // Whether an entry can be true.
-#[derive(Drop)]
+#[derive(Clone, Copy)]
 pub enum Truth {
     CanBe,
     CannotBe(Untrue),

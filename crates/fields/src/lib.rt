@@ -10,7 +10,7 @@ use bits::{Field, read_field};
 use forms::own_depths;
 
 // The bit position, the field just read, and the number of the first fault met, 0 for none.
-#[derive(Drop)]
+#[derive(Clone, Copy)]
 pub struct Cursor {
     pub at: usize,
     pub value: u16,
@@ -126,7 +126,7 @@ fn form_named(c: Cursor) -> u8
 }
 
 // The form, m, and in form 0 the depth − 1 of all shafts; and where the first shaft begins.
-#[derive(Drop)]
+#[derive(Clone, Copy)]
 pub struct Head {
     pub form: u8,
     pub m: u8,

@@ -10,7 +10,7 @@ use moves::Hints;
 use rooms::{Frame, Spot, usable};
 
 // A place that was looked for.
-#[derive(Drop)]
+#[derive(Clone, Copy)]
 pub enum Found {
     At(Spot),
     Nowhere,

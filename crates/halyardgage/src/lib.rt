@@ -1,21 +1,18 @@
 // The calls for the controller's C program, on byte slices (document 01, "calls for the controller's C program on numbers and byte
-// slices"), on sets of shafts (document 02, 10/13) and on a row of orders (1/13); the header is include/halyardgage.h. Each returns count × 256 + number.
+// slices") and on a row of orders (document 02, 1/13); the header is include/halyardgage.h. Each returns count × 256 + number.
 ghost use Rattle.std.specs.Prelude.{◌≡◌};
 ghost use Rattle.calls.specs.Shared.{read_fault};
 ghost use Rattle.convert_call.specs.ConvertCall.{ConvertCallIs};
 ghost use Rattle.follow_call.specs.FollowCall.{FollowCallIs};
 ghost use Rattle.halyardgage.specs.UncoverCall.{UncoverCallIs};
 ghost use Rattle.pair_calls.specs.PairCalls.{ReachCallIs, PlanCallIs};
-ghost use Rattle.within.specs.Bounds.{whole, within, groups};
 ghost use Rattle.replay_call.specs.ReplayCall.{ReplayCallIs};
 
 use calls::read_one;
 use convert_call::call_convert;
 use follow_call::call_follow;
 use orders::{Order, uncover};
-use pair_calls::{
-    call_plan, call_plan_groups, call_plan_within, call_reachable, call_reachable_within,
-};
+use pair_calls::{call_plan, call_reachable};
 use replay_call::call_replay;
 
 // Whether an image is accepted.
@@ -30,7 +27,7 @@ pub extern "C" fn halyard_check(image: &[u8]) -> u64
 // Whether some list of legal lifts leads from start to goal.
 #[unsafe(no_mangle)]
 pub extern "C" fn halyard_reachable(start: &[u8], goal: &[u8]) -> u64
-    ensures { ReachCallIs whole start.now goal.now result }
+    ensures { ReachCallIs start.now goal.now result }
 {
     call_reachable(start, goal)
 }
@@ -38,43 +35,9 @@ pub extern "C" fn halyard_reachable(start: &[u8], goal: &[u8]) -> u64
 // Writes a list of lifts that leads from start to goal, or nothing.
 #[unsafe(no_mangle)]
 pub extern "C" fn halyard_plan(start: &[u8], goal: &[u8], list: &mut [u8]) -> u64
-    ensures { PlanCallIs whole start.now goal.now list.old result list.new }
+    ensures { PlanCallIs start.now goal.now list.old result list.new }
 {
     call_plan(start, goal, list)
-}
-
-// Whether some list of legal lifts within the open shafts leads from start to goal.
-#[unsafe(no_mangle)]
-pub extern "C" fn halyard_reachable_within(start: &[u8], goal: &[u8], opened: u16) -> u64
-    ensures { ReachCallIs (within opened) start.now goal.now result }
-{
-    call_reachable_within(start, goal, opened)
-}
-
-// Writes a list of lifts within the open shafts that leads from start to goal, or nothing.
-#[unsafe(no_mangle)]
-pub extern "C" fn halyard_plan_within(
-    start: &[u8],
-    goal: &[u8],
-    opened: u16,
-    list: &mut [u8],
-) -> u64
-    ensures { PlanCallIs (within opened) start.now goal.now list.old result list.new }
-{
-    call_plan_within(start, goal, opened, list)
-}
-
-// Writes a list of lifts without a lift between groups that leads from start to goal, group by group, or nothing.
-#[unsafe(no_mangle)]
-pub extern "C" fn halyard_plan_groups(
-    start: &[u8],
-    goal: &[u8],
-    row: &[u16],
-    list: &mut [u8],
-) -> u64
-    ensures { PlanCallIs (groups row.now) start.now goal.now list.old result list.new }
-{
-    call_plan_groups(start, goal, row, list)
 }
 
 // Writes the store of an image in the form named, or nothing.

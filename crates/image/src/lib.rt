@@ -4,7 +4,7 @@
 use store::{Fault, Store};
 
 // Whether an image is accepted, or why it is refused: 1 to 5, 7.
-#[derive(Drop)]
+#[derive(Clone, Copy)]
 pub enum ReadAnswer {
     Accepted,
     WrongForm,
@@ -16,14 +16,14 @@ pub enum ReadAnswer {
 }
 
 // The store that an image stands for, or the empty store of one shaft of depth 1 where it is refused.
-#[derive(Drop)]
+#[derive(Clone, Copy)]
 pub struct Read {
     pub store: Store,
     pub answer: ReadAnswer,
 }
 
 // Whether an image is written in the form named, or why not: the store's number, 1, 18, 10.
-#[derive(Drop)]
+#[derive(Clone, Copy)]
 pub enum WriteAnswer {
     Whole,
     StoreRefused(Fault),
@@ -33,7 +33,7 @@ pub enum WriteAnswer {
 }
 
 // How many bytes are written.
-#[derive(Drop)]
+#[derive(Clone, Copy)]
 pub struct Written {
     pub count: usize,
     pub answer: WriteAnswer,

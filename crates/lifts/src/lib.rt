@@ -8,10 +8,10 @@ ghost use Rattle.lifts.specs.Numbers.{Only, judged_number};
 use marks::Cassette;
 
 // "A shaft is counted from 0 and a row from 1, so neither is accepted where the other is due."
-#[derive(Drop)]
+#[derive(Clone, Copy)]
 pub struct Shaft(pub u8);
 
-#[derive(Drop)]
+#[derive(Clone, Copy)]
 pub struct Row(pub u8);
 
 // The height of each shaft.
@@ -21,7 +21,7 @@ pub type Heights = [u8; 16];
 pub type Slots = [Cassette; 256];
 
 // Why a lift is refused: 11, 13, 14.
-#[derive(Drop)]
+#[derive(Clone, Copy)]
 pub enum Refusal {
     Shafts,
     Empty,
@@ -29,7 +29,7 @@ pub enum Refusal {
 }
 
 // Whether a lift is allowed.
-#[derive(Drop)]
+#[derive(Clone, Copy)]
 pub enum Judged {
     Allowed,
     Refused(Refusal),
@@ -83,7 +83,7 @@ pub fn slot_at(slots: &Slots, i: usize) -> Cassette
 }
 
 // The cassette that a lift carried, and the row it landed in.
-#[derive(Drop)]
+#[derive(Clone, Copy)]
 pub struct Carried {
     pub cassette: Cassette,
     pub row: Row,

@@ -11,7 +11,7 @@ use lifts::{Heights, Slots};
 use store::{Fault, Store, Verdict};
 
 // How following a log ends. A log of a wrong length is malformed, at entry 0.
-#[derive(Drop)]
+#[derive(Clone, Copy)]
 pub enum LogEnd {
     AllTrue,
     Stopped(Untrue),
@@ -19,7 +19,7 @@ pub enum LogEnd {
 }
 
 // The store reached; the place of the first entry that can't be true, counted from 0, or the count of entries where all can, 0 for a refused store; and how it ended.
-#[derive(Drop)]
+#[derive(Clone, Copy)]
 pub struct Followed {
     pub store: Store,
     pub entry: usize,
@@ -27,7 +27,7 @@ pub struct Followed {
 }
 
 // The entry, and how it ended, of a log followed in place; the store is accepted, and so not refused.
-#[derive(Drop)]
+#[derive(Clone, Copy)]
 pub struct Traced {
     pub entry: usize,
     pub end: LogEnd,

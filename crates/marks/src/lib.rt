@@ -69,7 +69,7 @@ fn mark(words: &mut Words, c: Cassette)
 }
 
 // Whether one cassette more was added to others, or why not: 4, 5.
-#[derive(Drop)]
+#[derive(Clone, Copy)]
 pub enum Taken {
     Added,
     NoCassette,

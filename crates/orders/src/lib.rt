@@ -12,7 +12,7 @@ use uncovering::{fewest_lifts, uncovering_lifts, uncovering_number};
 
 // An order: the cassette it names, and its answer.
 #[repr(C)]
-#[derive(Drop)]
+#[derive(Clone, Copy)]
 pub struct Order {
     pub cassette: u16,
     pub number: u8,
@@ -59,7 +59,7 @@ fn answer_row<'a, 'b>(
 }
 
 // What is known of a store before the first order: whether it is accepted, its verdict, and the count of its empty slots, 0 where it is refused.
-#[derive(Drop)]
+#[derive(Clone, Copy)]
 struct Begun {
     pub accepted: bool,
     pub verdict: Verdict,

@@ -2,7 +2,6 @@
 -- read start first, and give faults of reading before any other").
 use Rattle.std.specs.Prelude.{List, ◌≡◌, ℕ}
 use Rattle.store.specs.declared.Store.{Store}
-use Rattle.within.specs.Bounds.{Bounds}
 use Rattle.reachable.specs.declared.Reach.{Reach}
 use Rattle.reachable.specs.Numbers.{reach_number}
 use Rattle.reachable.specs.Promises.{ReachSays}
@@ -11,22 +10,22 @@ use Rattle.plans.specs.Numbers.{plan_number}
 use Rattle.plans.specs.Promises.{PlanIs}
 use Rattle.calls.specs.Shared.{answer_of, store_in, read_faults}
 
--- The number of the yes or no on two stores, for the lists that are allowed (document 02, 10/13).
-pub record ReachGives (w : Bounds) (s t : Store) (r : ℕ) : Type 0 where
+-- The number of the yes or no on two stores.
+pub record ReachGives (s t : Store) (r : ℕ) : Type 0 where
   pub answer : Reach
-  pub says : ReachSays w s t answer
+  pub says : ReachSays s t answer
   pub number : r ≡ reach_number answer
 
-pub record ReachCallIs (w : Bounds) (a b : List ℕ) (r : ℕ) : Type 0 where
+pub record ReachCallIs (a b : List ℕ) (r : ℕ) : Type 0 where
   pub unread : (read_faults a b ≡ 0 → ⊥) → r ≡ read_faults a b
-  pub answered : read_faults a b ≡ 0 → ReachGives w (store_in a) (store_in b) r
+  pub answered : read_faults a b ≡ 0 → ReachGives (store_in a) (store_in b) r
 
 -- The count and the number of the list maker on two stores, and what it leaves in the lent bytes: demand 3.
-pub record PlanGives (w : Bounds) (s t : Store) (came out : List ℕ) (r : ℕ) : Type 0 where
+pub record PlanGives (s t : Store) (came out : List ℕ) (r : ℕ) : Type 0 where
   pub planned : Planned
-  pub is : PlanIs w s t came out planned
+  pub is : PlanIs s t came out planned
   pub number : r ≡ answer_of planned.count (plan_number planned.answer)
 
-pub record PlanCallIs (w : Bounds) (a b came : List ℕ) (r : ℕ) (out : List ℕ) : Type 0 where
+pub record PlanCallIs (a b came : List ℕ) (r : ℕ) (out : List ℕ) : Type 0 where
   pub unread : (read_faults a b ≡ 0 → ⊥) → (r ≡ read_faults a b) × (out ≡ came)
-  pub answered : read_faults a b ≡ 0 → PlanGives w (store_in a) (store_in b) came out r
+  pub answered : read_faults a b ≡ 0 → PlanGives (store_in a) (store_in b) came out r

@@ -35,7 +35,6 @@ pub fn reach_number(r: Reach) -> u8
     match r {
         Reach::Yes => 0,
         Reach::Refused(f) => pair_fault_number(f),
-        Reach::ShaftSets => 21,
         Reach::Unreachable => 15,
     }
 }
@@ -46,7 +45,6 @@ pub fn plan_number(a: PlanAnswer) -> u8
     match a {
         PlanAnswer::Listed => 0,
         PlanAnswer::Refused(f) => pair_fault_number(f),
-        PlanAnswer::ShaftSets => 21,
         PlanAnswer::Unreachable => 15,
         PlanAnswer::LittleSpace => 10,
     }

@@ -11,7 +11,7 @@ use marks::{Words, count, same};
 use store::{Fault, Store, Verdict};
 
 // Why two stores can't be compared: the start's own fault, the goal's, 8, 9.
-#[derive(Drop)]
+#[derive(Clone, Copy)]
 pub enum PairFault {
     StartRefused(Fault),
     GoalRefused(Fault),
@@ -20,14 +20,14 @@ pub enum PairFault {
 }
 
 // Whether two stores can be compared.
-#[derive(Drop)]
+#[derive(Clone, Copy)]
 pub enum Pair {
     Comparable,
     Refused(PairFault),
 }
 
 // The answer, and the count of cassettes where the stores can be compared, else 0.
-#[derive(Drop)]
+#[derive(Clone, Copy)]
 pub struct Compared {
     pub pair: Pair,
     pub n: usize,

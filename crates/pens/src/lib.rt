@@ -4,7 +4,7 @@ ghost use Rattle.bits.specs.Fields.{bits};
 ghost use Rattle.pens.specs.Pens.{no_bits, Pushes, Pads};
 
 // How many bytes are stored, the bits of the next one so far (the low ones of part), and how many these are.
-#[derive(Drop)]
+#[derive(Clone, Copy)]
 pub struct Pen {
     pub at: usize,
     pub part: u8,

@@ -9,7 +9,7 @@ use moves::{Hints, put_lift};
 use rooms::{Frame, Spot, aside};
 
 // Where the cassette stands now, and the end of the list.
-#[derive(Drop)]
+#[derive(Clone, Copy)]
 pub struct Off {
     pub at: Spot,
     pub count: usize,

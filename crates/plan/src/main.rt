@@ -11,7 +11,6 @@ use pair_numbers::plan_number;
 use planner::make_list;
 use plans::{PlanAnswer, Planned};
 use reading::read;
-use sets::all_shafts;
 use store::Store;
 
 // Fills the buffer from a file and tells how many of its bytes count: up to the end of the file or of the buffer, and none where a read
@@ -79,7 +78,7 @@ fn planned(start: Store, goal: Store, list: &mut [u8]) -> Planned
     requires { 18432 ≤ length list.old }
     ensures { result.answer ≡ PlanAnswer.LittleSpace → ⊥ }
 {
-    make_list(start, goal, all_shafts(start.m), list)
+    make_list(start, goal, list)
 }
 
 fn print_plan(start: Store, goal: Store) {

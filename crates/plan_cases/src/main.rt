@@ -7,10 +7,9 @@ use lifts::Slots;
 use marks::{Cassette, blank};
 use numbers::end_number;
 use pair_numbers::{plan_number, reach_number};
-use planner::{make_list, make_list_by_groups};
+use planner::make_list;
 use reachable::reachable;
 use replay::replay;
-use sets::all_shafts;
 use store::Store;
 
 fn say(what: &[u8], number: u64) {
@@ -118,85 +117,18 @@ fn tell(reach: u8, plan: u8, count: usize, arrived: bool) {
     io::write_all(STDOUT_FILENO, b"\n");
 }
 
-// A pair of stores with some shafts open.
-fn show_within(what: &[u8], start: Store, goal: Store, opened: u16, list: &mut [u8]) {
+fn show(what: &[u8], start: Store, goal: Store, list: &mut [u8]) {
     io::write_all(STDOUT_FILENO, what);
-    let planned = make_list(start, goal, opened, list);
+    let planned = make_list(start, goal, list);
     let answer = planned.answer;
     let count = planned.count;
-    let reach = reach_number(reachable(start, goal, opened));
+    let reach = reach_number(reachable(start, goal));
     tell(
         reach,
         plan_number(answer),
         count,
         led(start, goal, list, count),
     );
-}
-
-// A pair of stores with all shafts open.
-fn show(what: &[u8], start: Store, goal: Store, list: &mut [u8]) {
-    show_within(what, start, goal, all_shafts(start.m), list);
-}
-
-// A pair of stores by two groups of shafts.
-fn show_groups(what: &[u8], start: Store, goal: Store, one: u16, other: u16, list: &mut [u8]) {
-    io::write_all(STDOUT_FILENO, what);
-    let groups = [one, other];
-    let planned = make_list_by_groups(start, goal, &groups, list);
-    let answer = planned.answer;
-    let count = planned.count;
-    say(b": plan ", plan_number(answer) as u64);
-    say(b", lifts ", count as u64);
-    if led(start, goal, list, count) {
-        io::write_all(STDOUT_FILENO, b", replay ends at the goal");
-    }
-    io::write_all(STDOUT_FILENO, b"\n");
-}
-
-// m 4, h 2, two cassettes in shaft 0 and two in shaft 2.
-fn two_pairs(a: u16, b: u16, c: u16, d: u16) -> Store {
-    with(with(with(with(empty(4, 2), 0, a), 0, b), 2, c), 2, d)
-}
-
-// One of each pair moved to the shaft beside it.
-fn spread_pairs() -> Store {
-    with(with(with(with(empty(4, 2), 0, 1), 1, 2), 3, 4), 2, 3)
-}
-
-// Two pairs of shafts, in either order, and all of them beside an empty group.
-fn group_cases(list: &mut [u8]) {
-    let start = two_pairs(1, 2, 3, 4);
-    show_groups(b"groups 0 1 and 2 3", start, spread_pairs(), 3, 12, list);
-    show_groups(b"groups 2 3 and 0 1", start, spread_pairs(), 12, 3, list);
-    show_groups(b"a group and none", start, spread_pairs(), 15, 0, list);
-}
-
-fn wrong_group_cases(list: &mut [u8]) {
-    let start = two_pairs(1, 2, 3, 4);
-    show_groups(b"a shaft missed", start, spread_pairs(), 3, 4, list);
-    show_groups(b"a shaft twice", start, spread_pairs(), 7, 12, list);
-    show_groups(
-        b"the pairs exchanged",
-        start,
-        two_pairs(3, 4, 1, 2),
-        3,
-        12,
-        list,
-    );
-}
-
-// One pair turned about, with some shafts open.
-fn open_cases(list: &mut [u8]) {
-    let start = two_pairs(1, 2, 3, 4);
-    show_within(b"shafts 0 1 3 open", start, two_pairs(2, 1, 3, 4), 11, list);
-    show_within(b"shafts 0 1 open", start, two_pairs(2, 1, 3, 4), 3, list);
-    show_within(b"shaft 0 locked", start, two_pairs(2, 1, 3, 4), 14, list);
-}
-
-fn few_open_cases(list: &mut [u8]) {
-    let start = two_pairs(1, 2, 3, 4);
-    show_within(b"no shaft open, to itself", start, start, 0, list);
-    show_within(b"bit 4 set", start, two_pairs(2, 1, 3, 4), 31, list);
 }
 
 // m 16, h 16 with 255 cassettes, each number from 1 to 255 once: shaft by shaft, counted from a number on.
@@ -385,10 +317,6 @@ fn main() {
     exchanged_cases(&mut enough);
     uneven_cases(&mut enough);
     deeper_cases(&mut enough);
-    group_cases(&mut enough);
-    wrong_group_cases(&mut enough);
-    open_cases(&mut enough);
-    few_open_cases(&mut enough);
     let mut list = [0u8; 18432];
     full_cases(&mut list);
     full_of_blanks(&mut list);

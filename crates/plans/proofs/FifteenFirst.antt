@@ -18,7 +18,6 @@ use Rattle.reach.specs.Pairs.{pair_fault}
 use Rattle.reach.specs.Tests.{rule_test}
 use Rattle.reach.proofs.RuleTests.{reachable_test}
 use Rattle.reach.proofs.Sets.{comparable}
-use Rattle.within.specs.Bounds.{whole}
 use Rattle.plans.specs.declared.PlanAnswer.{PlanAnswer}
 use Rattle.plans.specs.Numbers.{plan_number, plan_fault}
 use Rattle.plans.specs.Promises.{PlanSays}
@@ -58,6 +57,6 @@ ten_becomes_fifteen s t lent =
     ]
 
 -- so of every answer that is right
-pub answers_changed : (s t : Store) (came : List ℕ) (a : PlanAnswer) → PlanSays whole s t came a
+pub answers_changed : (s t : Store) (came : List ℕ) (a : PlanAnswer) → PlanSays s t came a
     → TenBecomesFifteen (plan_number a) (ten_first s t (length came)) (Reachable s t)
 answers_changed s t came a p = rw (plan_numbered s t came a p) (ten_becomes_fifteen s t (length came))

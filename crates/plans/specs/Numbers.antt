@@ -1,5 +1,5 @@
--- The number of document 01, or document 02, for each answer of the list maker; 0 where a list was made. And the number that it gives with all shafts open, by
--- the two stores and the length of the lent space.
+-- The number of document 01 for each answer of the list maker; 0 where a list was made. And the number that the list maker gives, by the two stores and
+-- the length of the lent space.
 use Rattle.std.specs.Prelude.{not, ℕ, ltb}
 use Rattle.marks.specs.Cassettes.{given, first}
 use Rattle.store.specs.declared.Store.{Store}
@@ -12,7 +12,6 @@ use Rattle.plans.specs.declared.PlanAnswer.{PlanAnswer}
 abbrev pub plan_number : PlanAnswer → ℕ
 plan_number PlanAnswer.Listed = 0
 plan_number (PlanAnswer.Refused f) = pair_fault_number f
-plan_number PlanAnswer.ShaftSets = 21
 plan_number PlanAnswer.Unreachable = 15
 plan_number PlanAnswer.LittleSpace = 10
 

@@ -1,32 +1,28 @@
--- What the list maker promises (document 01, "Which comes first", and requests 6/13 and 10/13; demand 3): for each value of the answer, what it says of the two stores
+-- What the list maker promises (document 01, "Which comes first", and request 6/13; demand 3): for each value of the answer, what it says of the two stores
 -- and the lent bytes, and what it leaves in them. No two values can be right at once (`proofs/PlanExact.antt`).
 use Rattle.std.specs.Prelude.{List, ◌≡◌, ℕ, ◌≤◌, ◌<◌, length}
 use Rattle.store.specs.declared.Store.{Store}
 use Rattle.store.specs.Slots.{list_space}
-use Rattle.store.specs.Lists.{Leads}
+use Rattle.store.specs.Lists.{Leads, Reachable}
 use Rattle.reach.specs.Pairs.{Comparable}
 use Rattle.moves.specs.Written.{written}
-use Rattle.within.specs.Bounds.{Bounds, Fitting, Can, Keeps}
 use Rattle.pairs.specs.Promises.{Faulty}
 use Rattle.plans.specs.declared.PlanAnswer.{PlanAnswer}
 use Rattle.plans.specs.declared.Planned.{Planned}
 
--- First the faults of the two stores. Then 21, where the sets of shafts don't fit. Then 15 where no list that is allowed, of any length, leads from start to
--- goal, whatever is lent. Where one does, 10 if less than 4hn + 8n bytes are lent, "with the whole store's h and n" (request 10/13), and else a list. "When both
--- apply, 15 shall be given, since no buffer cures it." (Request 6/13.)
-abbrev pub PlanSays : Bounds → Store → Store → List ℕ → PlanAnswer → Type 0
-PlanSays b s t came (PlanAnswer.Refused f) = Faulty s t f
-PlanSays b s t came PlanAnswer.ShaftSets = Comparable s t × (Fitting b s.m → ⊥)
-PlanSays b s t came PlanAnswer.Unreachable = Comparable s t × (Fitting b s.m × (Can b s t → ⊥))
-PlanSays b s t came PlanAnswer.LittleSpace = Comparable s t × (Fitting b s.m × (Can b s t × (length came < list_space s)))
-PlanSays b s t came PlanAnswer.Listed = Comparable s t × (Fitting b s.m × (Can b s t × (list_space s ≤ length came)))
+-- First the faults of the two stores. Then 15 where no list of any length leads from start to goal, whatever is lent. Where one does, 10 if less than
+-- 4hn + 8n bytes are lent, and else a list. "When both apply, 15 shall be given, since no buffer cures it." (Request 6/13.)
+abbrev pub PlanSays : Store → Store → List ℕ → PlanAnswer → Type 0
+PlanSays s t came (PlanAnswer.Refused f) = Faulty s t f
+PlanSays s t came PlanAnswer.Unreachable = Comparable s t × (Reachable s t → ⊥)
+PlanSays s t came PlanAnswer.LittleSpace = Comparable s t × (Reachable s t × (length came < list_space s))
+PlanSays s t came PlanAnswer.Listed = Comparable s t × (Reachable s t × (list_space s ≤ length came))
 
--- Some list that is allowed leads from start to goal, within the list space; which one is left free. "the count returned is the number of lifts in the list"; it
--- "fills the first bytes of the lent space, the rest stay as they came". "Start equal to goal gives the empty list."
-pub record Lists (b : Bounds) (s t : Store) (came out : List ℕ) (n : ℕ) : Type 0 where
+-- Some list leads from start to goal, within the list space; which one is left free. "the count returned is the number of lifts in the list"; it "fills
+-- the first bytes of the lent space, the rest stay as they came". "Start equal to goal gives the empty list."
+pub record Lists (s t : Store) (came out : List ℕ) (n : ℕ) : Type 0 where
   pub lifts : List ℕ
   pub leads : Leads s lifts t
-  pub keeps : Keeps b lifts
   pub count : n ≡ length lifts
   pub short : length lifts ≤ list_space s
   pub bytes : out ≡ written came 0 lifts
@@ -37,16 +33,15 @@ pub record Untouched (came out : List ℕ) (n : ℕ) : Type 0 where
   pub count : n ≡ 0
   pub bytes : out ≡ came
 
-abbrev pub PlanLeaves : Bounds → Store → Store → List ℕ → List ℕ → ℕ → PlanAnswer → Type 0
-PlanLeaves b s t came out n (PlanAnswer.Refused f) = Untouched came out n
-PlanLeaves b s t came out n PlanAnswer.ShaftSets = Untouched came out n
-PlanLeaves b s t came out n PlanAnswer.Unreachable = Untouched came out n
-PlanLeaves b s t came out n PlanAnswer.LittleSpace = Untouched came out n
-PlanLeaves b s t came out n PlanAnswer.Listed = Lists b s t came out n
+abbrev pub PlanLeaves : Store → Store → List ℕ → List ℕ → ℕ → PlanAnswer → Type 0
+PlanLeaves s t came out n (PlanAnswer.Refused f) = Untouched came out n
+PlanLeaves s t came out n PlanAnswer.Unreachable = Untouched came out n
+PlanLeaves s t came out n PlanAnswer.LittleSpace = Untouched came out n
+PlanLeaves s t came out n PlanAnswer.Listed = Lists s t came out n
 
-pub record PlanIs (b : Bounds) (s t : Store) (came out : List ℕ) (r : Planned) : Type 0 where
-  pub answer : PlanSays b s t came r.answer
-  pub left : PlanLeaves b s t came out r.count r.answer
+pub record PlanIs (s t : Store) (came out : List ℕ) (r : Planned) : Type 0 where
+  pub answer : PlanSays s t came r.answer
+  pub left : PlanLeaves s t came out r.count r.answer
 
 -- A refusal gives its answer, counts no lift, and leaves the lent bytes as they came.
 pub record RefusedPlan (a : PlanAnswer) (came out : List ℕ) (r : Planned) : Type 0 where

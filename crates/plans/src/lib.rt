@@ -1,32 +1,29 @@
-// A plan: how the list maker answers (document 01, "Which comes first", and requests 6/13 and 10/13), and what is planned for two stores
-// that can be compared and a row of sets.
+// A plan: how the list maker answers (document 01, "Which comes first", and request 6/13), and what is planned for two stores that can be
+// compared.
 ghost use Rattle.std.specs.Prelude.{◌≡◌, ◌<◌};
 ghost use Rattle.stacks.specs.Deciding.{Decides};
 ghost use Rattle.store.specs.Accept.{Accepted};
 ghost use Rattle.store.specs.Slots.{cassette_count, list_space};
 ghost use Rattle.reach.specs.Pairs.{Comparable};
-ghost use Rattle.sets.specs.Sets.{Disjoint};
-ghost use Rattle.within.specs.Bounds.{apart};
 ghost use Rattle.plans.specs.Promises.{RefusedPlan, PlanIs};
 
-use apart::reachable_apart;
 use depths::list_space;
+use making::make;
 use pairs::PairFault;
-use part_lists::make_row;
+use rules::rule_holds;
 use store::Store;
 
-// How the list maker answers: a list, or refused with the fault of the pair, 21, 15 or 10.
-#[derive(Drop)]
+// How the list maker answers: a list, or refused with the fault of the pair, 15 or 10.
+#[derive(Clone, Copy)]
 pub enum PlanAnswer {
     Listed,
     Refused(PairFault),
-    ShaftSets,
     Unreachable,
     LittleSpace,
 }
 
 // The answer, and the count of lifts in the list, 0 where there is none.
-#[derive(Drop)]
+#[derive(Clone, Copy)]
 pub struct Planned {
     pub answer: PlanAnswer,
     pub count: usize,
@@ -58,14 +55,13 @@ fn too_little(lent: usize, start: Store, n: usize) -> bool
     lent < list_space(start.m, depths, n)
 }
 
-// For two stores that can be compared, and hold n cassettes, and a row of sets that share no shaft: 15, 10, or the list.
-pub fn plan_row(start: Store, goal: Store, n: usize, row: &[u16], out: &mut [u8]) -> Planned
+// For two stores that can be compared, and hold n cassettes: 15, 10, or the list.
+pub fn plan_pair(start: Store, goal: Store, n: usize, out: &mut [u8]) -> Planned
     requires comparable { Comparable start goal }
     requires n_value { n ≡ cassette_count start }
-    requires disjoint { Disjoint start.m row.now }
-    ensures { PlanIs (apart row.now) start goal out.old out.new result }
+    ensures { PlanIs start goal out.old out.new result }
 {
-    let reachable = reachable_apart(start, goal, row);
+    let reachable = rule_holds(start, goal, n);
     let little = too_little(out.len(), start, n);
     if !reachable {
         return refused(PlanAnswer::Unreachable, out);
@@ -73,6 +69,6 @@ pub fn plan_row(start: Store, goal: Store, n: usize, row: &[u16], out: &mut [u8]
     if little {
         return refused(PlanAnswer::LittleSpace, out);
     }
-    let count = make_row(start, goal, row, out);
+    let count = make(start, goal, out);
     listed(count)
 }

@@ -1,4 +1,4 @@
--- The number of document 01, or document 02, for each case of the yes or no; 0 for yes.
+-- The number of document 01 for each case of the yes or no; 0 for yes.
 use Rattle.std.specs.Prelude.{ℕ}
 use Rattle.pairs.specs.Numbers.{pair_fault_number}
 use Rattle.reachable.specs.declared.Reach.{Reach}
@@ -6,5 +6,4 @@ use Rattle.reachable.specs.declared.Reach.{Reach}
 abbrev pub reach_number : Reach → ℕ
 reach_number Reach.Yes = 0
 reach_number (Reach.Refused f) = pair_fault_number f
-reach_number Reach.ShaftSets = 21
 reach_number Reach.Unreachable = 15

@@ -1,23 +1,20 @@
-// The yes or no (document 01, "Which goals can be reached", "Which comes first"), within a set of open shafts (document 02, 10/13).
+// The yes or no (document 01, "Which goals can be reached", "Which comes first").
 ghost use Rattle.std.specs.Prelude.{◌≡◌};
-ghost use Rattle.within.specs.Bounds.{within};
 ghost use Rattle.reachable.specs.Promises.{yes_or_no, ReachSays};
 
-use apart::reachable_apart;
 use pairs::{Pair, PairFault, compare};
-use sets::fits;
+use rules::rule_holds;
 use store::Store;
 
 // The yes or no.
-#[derive(Drop)]
+#[derive(Clone, Copy)]
 pub enum Reach {
     Yes,
     Refused(PairFault),
-    ShaftSets,
     Unreachable,
 }
 
-// The answer on stores that can be compared, by whether the goal can be reached.
+// The answer on stores that can be compared, by whether the rule holds.
 fn yes_or_no(holds: bool) -> Reach
     ensures { result ≡ yes_or_no holds }
 {
@@ -28,18 +25,14 @@ fn yes_or_no(holds: bool) -> Reach
     }
 }
 
-// Whether some list of legal lifts within the open shafts leads from start to goal.
-pub fn reachable(start: Store, goal: Store, opened: u16) -> Reach
-    ensures { ReachSays (within opened) start goal result }
+// Whether some list of legal lifts leads from start to goal.
+pub fn reachable(start: Store, goal: Store) -> Reach
+    ensures { ReachSays start goal result }
 {
     let compared = compare(start, goal);
     let pair = compared.pair;
     if let Pair::Refused(f) = pair {
         return Reach::Refused(f);
     }
-    if !fits(opened, start.m) {
-        return Reach::ShaftSets;
-    }
-    let row = [opened];
-    yes_or_no(reachable_apart(start, goal, &row))
+    yes_or_no(rule_holds(start, goal, compared.n))
 }

@@ -18,7 +18,7 @@ use store::lift::try_lift;
 use store::{Fault, Store, Verdict};
 
 // How a replay ends.
-#[derive(Drop)]
+#[derive(Clone, Copy)]
 pub enum End {
     RunThrough,
     Stopped(Refusal),
@@ -30,7 +30,7 @@ pub enum End {
 pub type Carries = [usize; 256];
 
 // The store reached, how often each of its cassettes was carried, the count of lifts done, and how the replay ended.
-#[derive(Drop)]
+#[derive(Clone, Copy)]
 pub struct Replayed {
     pub store: Store,
     pub carries: Carries,
@@ -64,7 +64,7 @@ impl Replayed {
 }
 
 // The count of lifts done, and how the replay ended.
-#[derive(Drop)]
+#[derive(Clone, Copy)]
 pub struct Played {
     pub count: usize,
     pub end: End,

@@ -11,7 +11,7 @@ use depths::{Depths, depth_of};
 use lifts::{Heights, Row, Shaft};
 
 // The shafts that may be used are those below m, each with its depth; e slots are empty.
-#[derive(Drop)]
+#[derive(Clone, Copy)]
 pub struct Frame {
     pub m: u8,
     pub depths: Depths,
@@ -19,21 +19,21 @@ pub struct Frame {
 }
 
 // A row of a shaft.
-#[derive(Drop)]
+#[derive(Clone, Copy)]
 pub struct Spot {
     pub shaft: Shaft,
     pub row: Row,
 }
 
 // The shaft left and the shaft entered.
-#[derive(Drop)]
+#[derive(Clone, Copy)]
 pub struct Lift {
     pub from: Shaft,
     pub to: Shaft,
 }
 
 // A shaft that was looked for.
-#[derive(Drop)]
+#[derive(Clone, Copy)]
 pub enum Search {
     At(Shaft),
     Nowhere,

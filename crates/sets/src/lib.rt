@@ -26,7 +26,7 @@ pub fn all_shafts(m: u8) -> u16
 }
 
 // New numbers for some shafts: how many there are, and which shaft has which number, 16 for none.
-#[derive(Drop)]
+#[derive(Clone, Copy)]
 pub struct Numbering {
     pub count: u8,
     pub names: [u8; 16],

@@ -8,7 +8,7 @@ use lifts::{Carried, Heights, Judged, Refusal, Slots};
 use marks::Words;
 
 // m shafts; the depth and the height of each shaft; and the slots, 16 for a shaft from row 1 upward, 0 for an empty one.
-#[derive(Drop)]
+#[derive(Clone, Copy)]
 pub struct Store {
     pub m: u8,
     pub depths: Depths,
@@ -17,7 +17,7 @@ pub struct Store {
 }
 
 // Why a store given as a value is refused: 12, 3, 4, 5.
-#[derive(Drop)]
+#[derive(Clone, Copy)]
 pub enum Fault {
     OutOfPlace,
     TooHigh,
@@ -26,21 +26,21 @@ pub enum Fault {
 }
 
 // Whether a store given as a value is accepted.
-#[derive(Drop)]
+#[derive(Clone, Copy)]
 pub enum Verdict {
     Accepted,
     Refused(Fault),
 }
 
 // A checked store's verdict, and the marks of its cassettes but blanks, none where it is refused.
-#[derive(Drop)]
+#[derive(Clone, Copy)]
 pub struct Checked {
     pub verdict: Verdict,
     pub marks: Words,
 }
 
 // How a single lift is answered.
-#[derive(Drop)]
+#[derive(Clone, Copy)]
 pub enum Answer {
     Done,
     StoreRefused(Fault),
@@ -49,7 +49,7 @@ pub enum Answer {
 
 // The store after a single lift and the cassette that it carried with the row it landed in; where the lift is refused, the store as it came,
 // cassette 0 and row 0.
-#[derive(Drop)]
+#[derive(Clone, Copy)]
 pub struct Lifted {
     pub store: Store,
     pub carried: Carried,
@@ -57,7 +57,7 @@ pub struct Lifted {
 }
 
 // Whether a lift tried in place was allowed, and then what it carried; else cassette 0 and row 0.
-#[derive(Drop)]
+#[derive(Clone, Copy)]
 pub struct Tried {
     pub judged: Judged,
     pub carried: Carried,

@@ -9,14 +9,14 @@ use moves::{Hints, put_lift};
 use rooms::{Frame, Spot};
 
 // A shaft whose top row was passed and lent, and is to be filled again.
-#[derive(Drop)]
+#[derive(Clone, Copy)]
 pub enum Owed {
     Nothing,
     Top(Shaft),
 }
 
 // What is owed, and the end of the list.
-#[derive(Drop)]
+#[derive(Clone, Copy)]
 pub struct Turned {
     pub owed: Owed,
     pub count: usize,

@@ -12,7 +12,7 @@ use lifts::{Heights, Slots, height_at, slot_at};
 use rules::floor_rows;
 
 // How an order is answered: after so many lifts nothing stands on the cassette; it isn't in the store, 16; no list of legal lifts uncovers it, 17.
-#[derive(Drop)]
+#[derive(Clone, Copy)]
 pub enum Uncovering {
     After(u8),
     Absent,

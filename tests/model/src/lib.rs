@@ -1,6 +1,6 @@
 //! Stores, images, lifts, a full search and the reachability rule of document 01, written from that document alone, and of document 02 the orders, by a rule
 //! that the tests hold to the search, what lifts carried, the blanks, the shafts of unequal depth, the cassette
-//! numbers past 255, the changer's log, and the sets of open shafts and the groups.
+//! numbers past 255, and the changer's log.
 //!
 //! Nothing here is proved. The outside tests compare the proved library with it, and the tool and the benchmark use it.
 
@@ -9,10 +9,8 @@ pub mod log;
 pub mod log_text;
 pub mod play;
 pub mod random;
-mod random_sets;
 pub mod rule;
 pub mod search;
-pub mod sets;
 pub mod store;
 pub mod text;
 pub mod uncover;

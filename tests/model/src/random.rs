@@ -209,7 +209,7 @@ impl Random {
 }
 
 /// A shaft and an index into it.
-pub(crate) type Slot = (usize, usize);
+type Slot = (usize, usize);
 
 fn with_room(store: &Store) -> Vec<usize> {
     (0..store.m())
@@ -217,7 +217,7 @@ fn with_room(store: &Store) -> Vec<usize> {
         .collect()
 }
 
-pub(crate) fn all_slots(store: &Store) -> Vec<Slot> {
+fn all_slots(store: &Store) -> Vec<Slot> {
     (0..store.m())
         .flat_map(|shaft| (0..store.shafts[shaft].len()).map(move |row| (shaft, row)))
         .collect()
@@ -232,11 +232,11 @@ fn bound_slots(store: &Store) -> Vec<Slot> {
     slots
 }
 
-pub(crate) fn shown(store: &Store, (shaft, row): Slot) -> u16 {
+fn shown(store: &Store, (shaft, row): Slot) -> u16 {
     store.shafts[shaft][row]
 }
 
-pub(crate) fn swap_slots(store: &mut Store, (a, i): Slot, (b, j): Slot) {
+fn swap_slots(store: &mut Store, (a, i): Slot, (b, j): Slot) {
     let cassette = store.shafts[a][i];
     store.shafts[a][i] = store.shafts[b][j];
     store.shafts[b][j] = cassette;

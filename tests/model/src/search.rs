@@ -18,25 +18,15 @@ struct Step {
 impl Search {
     /// Searches until no store is left or more than `most` have been found.
     pub fn all(start: &Store, most: usize) -> Search {
-        Search::run(start, None, most, &|_| true)
-    }
-
-    /// The same by lifts that are allowed, and by no others.
-    pub fn allowed(start: &Store, most: usize, allowed: impl Fn(u8) -> bool) -> Search {
-        Search::run(start, None, most, &allowed)
+        Search::run(start, None, most)
     }
 
     /// Searches until the goal is found, no store is left, or more than `most` have been found.
     pub fn towards(start: &Store, goal: &Store, most: usize) -> Search {
-        Search::run(start, Some(goal), most, &|_| true)
+        Search::run(start, Some(goal), most)
     }
 
-    fn run(
-        start: &Store,
-        goal: Option<&Store>,
-        most: usize,
-        allowed: &dyn Fn(u8) -> bool,
-    ) -> Search {
+    fn run(start: &Store, goal: Option<&Store>, most: usize) -> Search {
         let mut search = Search {
             found: HashMap::from([(start.clone(), 0)]),
             steps: vec![Step { from: 0, lift: 0 }],
@@ -52,8 +42,7 @@ impl Search {
                 search.ended = false;
                 return search;
             }
-            let lifts = play::legal_lifts(&store);
-            for lift in lifts.into_iter().filter(|&lift| allowed(lift)) {
+            for lift in play::legal_lifts(&store) {
                 waiting.extend(search.add(&store, from, lift));
             }
             from += 1;
@@ -281,19 +270,6 @@ mod tests {
         let search = Search::all(&store("1x2: [1 2]"), 100);
         assert_eq!((search.count(), search.ended()), (1, true));
         assert!(search.list_to(&store("1x2: [2 1]")).is_none());
-    }
-
-    /// Of three shafts of depth 1 the last may not be touched, or nothing may go from the first to the second.
-    #[test]
-    fn a_search_by_some_lifts() {
-        let start = store("3x1: [1] [] [2]");
-        let search = Search::allowed(&start, 100, |lift| lift == 0x01 || lift == 0x10);
-        assert!(search.ended() && search.count() == 2);
-        assert!(search.reaches(&store("3x1: [] [1] [2]")));
-        let search = Search::allowed(&start, 100, |lift| lift != 0x01);
-        assert_eq!(search.count(), Search::all(&start, 100).count());
-        let list = search.list_to(&store("3x1: [] [1] [2]")).unwrap();
-        assert!(list.len() > 1 && !list.contains(&0x01));
     }
 
     #[test]

@@ -1,12 +1,72 @@
-//! The C calls, each on guarded bytes and orders. Those that take sets of shafts are in `set_calls`.
-
-pub use crate::c::{self, Order};
+//! The seven C calls, each on guarded bytes and orders.
 
 use crate::guarded::{Guarded, Noise};
 use halyard_model::Random;
 use halyard_model::image::{self, Form};
 use halyard_model::random::MOST_IN_A_BYTE;
 use halyard_model::store::BLANK;
+
+pub mod c {
+    //! As include/halyardgage.h declares them.
+
+    /// `struct halyard_order`.
+    #[repr(C)]
+    #[derive(Clone, Copy, Debug, PartialEq, Eq)]
+    pub struct Order {
+        pub cassette: u16,
+        pub number: u8,
+        pub lifts: u8,
+    }
+
+    unsafe extern "C" {
+        pub fn halyard_check(image: *const u8, image_len: usize) -> u64;
+        pub fn halyard_reachable(
+            start: *const u8,
+            start_len: usize,
+            goal: *const u8,
+            goal_len: usize,
+        ) -> u64;
+        pub fn halyard_plan(
+            start: *const u8,
+            start_len: usize,
+            goal: *const u8,
+            goal_len: usize,
+            list: *mut u8,
+            list_len: usize,
+        ) -> u64;
+        pub fn halyard_replay(
+            image: *const u8,
+            image_len: usize,
+            list: *const u8,
+            list_len: usize,
+            out: *mut u8,
+            out_len: usize,
+        ) -> u64;
+        pub fn halyard_follow(
+            image: *const u8,
+            image_len: usize,
+            log: *const u8,
+            log_len: usize,
+            out: *mut u8,
+            out_len: usize,
+        ) -> u64;
+        pub fn halyard_convert(
+            image: *const u8,
+            image_len: usize,
+            form: u8,
+            out: *mut u8,
+            out_len: usize,
+        ) -> u64;
+        pub fn halyard_uncover(
+            image: *const u8,
+            image_len: usize,
+            orders: *mut Order,
+            orders_len: usize,
+        ) -> u64;
+    }
+}
+
+pub use c::Order;
 
 impl Order {
     /// An order for a cassette, with noise where its answer goes.
@@ -56,7 +116,7 @@ pub struct Written<T = u8> {
 }
 
 /// How many answers had each number.
-pub(crate) type Numbers = [u64; 256];
+type Numbers = [u64; 256];
 
 /// The same for each form, and for each two forms.
 type ByForm = [Numbers; 3];
@@ -71,8 +131,8 @@ fn past_a_byte(cassette: u16) -> bool {
 
 /// Makes the calls, with noise from a generator of its own, and sees after each that what it was given to read is unchanged.
 pub struct Caller {
-    pub(crate) random: Random,
-    pub(crate) guard: usize,
+    random: Random,
+    guard: usize,
     answers: Numbers,
     unequal: Numbers,
     past_a_byte: Numbers,
@@ -82,9 +142,6 @@ pub struct Caller {
     orders: Numbers,
     orders_past_a_byte: Numbers,
     lifts: Numbers,
-    /// Where none, one, two and more shafts are open.
-    pub(crate) open: [Numbers; 4],
-    pub(crate) groups: Numbers,
 }
 
 impl Caller {
@@ -101,8 +158,6 @@ impl Caller {
             orders: NONE,
             orders_past_a_byte: NONE,
             lifts: NONE,
-            open: [NONE; 4],
-            groups: NONE,
         }
     }
 
@@ -165,7 +220,7 @@ impl Caller {
         answer
     }
 
-    pub(crate) fn answer_on_two(&mut self, bits: u64, start: &Guarded, goal: &Guarded) -> Answer {
+    fn answer_on_two(&mut self, bits: u64, start: &Guarded, goal: &Guarded) -> Answer {
         let answer = self.answer(bits, start);
         let forms = [start, goal].map(|image| image::form_of(image.content()));
         if let [Ok(start), Ok(goal)] = forms {
@@ -174,11 +229,11 @@ impl Caller {
         answer
     }
 
-    pub(crate) fn holding(&mut self, content: &[u8]) -> Guarded {
+    fn holding(&mut self, content: &[u8]) -> Guarded {
         Guarded::holding(&mut self.random, self.guard, content)
     }
 
-    pub(crate) fn space(&mut self, len: usize) -> Guarded {
+    fn space(&mut self, len: usize) -> Guarded {
         Guarded::space(&mut self.random, self.guard, len)
     }
 

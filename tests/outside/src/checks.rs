@@ -1,4 +1,4 @@
-//! One comparison of each call with what documents 01 and 02 have it answer and write. Those that take sets of shafts are in `set_checks`.
+//! One comparison of each call with what documents 01 and 02 have it answer and write.
 
 use crate::calls::{Answer, Caller, Order, Written};
 use crate::expected;
@@ -148,7 +148,6 @@ fn show_log(log: &[u8]) -> String {
     }
 }
 
-/// Two stores for a person.
-pub fn show_pair(start: &[u8], goal: &[u8]) -> String {
+fn show_pair(start: &[u8], goal: &[u8]) -> String {
     format!("from {} to {}", show(start), show(goal))
 }

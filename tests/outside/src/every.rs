@@ -16,7 +16,9 @@ pub fn pairs(
     cassettes: &[u16],
 ) -> usize {
     let stores = every_store(depths, cassettes);
-    let classes = classes(&stores, &|_| true);
+    let classes = classes(&stores);
+    assert_eq!(classes.len(), stores.len(), "the search found other stores");
+    let classes: Vec<usize> = stores.iter().map(|store| classes[store]).collect();
     let mut images = || -> Vec<Vec<u8>> {
         let image = |store| inputs::image(random, store);
         stores.iter().map(image).collect()
@@ -34,17 +36,16 @@ pub fn pairs(
     stores.len()
 }
 
-/// For each store, which of the sets of stores that lead to each other by lifts that are allowed it is in. Whatever is allowed, so is the lift back.
-pub fn classes(stores: &[Store], allowed: &dyn Fn(u8) -> bool) -> Vec<usize> {
+/// For each store, which of the sets of stores that lead to each other it is in.
+fn classes(stores: &[Store]) -> HashMap<Store, usize> {
     let mut classes = HashMap::new();
     for (number, store) in stores.iter().enumerate() {
         if !classes.contains_key(store) {
-            let search = Search::allowed(store, usize::MAX, allowed);
+            let search = Search::all(store, usize::MAX);
             classes.extend(search.stores().map(|store| (store.clone(), number)));
         }
     }
-    assert_eq!(classes.len(), stores.len(), "the search found other stores");
-    stores.iter().map(|store| classes[store]).collect()
+    classes
 }
 
 /// No blank or one, by chance, since all cassettes differ with both, and every count above.

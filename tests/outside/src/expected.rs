@@ -2,7 +2,7 @@
 
 use crate::calls::{Answer, Order};
 use halyard_model::image::Form;
-use halyard_model::{Store, image, log, play, rule, sets, uncover};
+use halyard_model::{Store, image, log, play, rule, uncover};
 
 /// The answer of a check.
 pub fn check(bytes: &[u8]) -> Answer {
@@ -27,26 +27,6 @@ pub fn reachable(start: &[u8], goal: &[u8]) -> u8 {
     match pair(start, goal) {
         Err(number) => number,
         Ok((start, goal)) if rule::reachable(&start, &goal) => 0,
-        Ok(_) => 15,
-    }
-}
-
-/// The number of a yes or no within a set: 21 after 9.
-pub fn within(start: &[u8], goal: &[u8], open: u16) -> u8 {
-    match pair(start, goal) {
-        Err(number) => number,
-        Ok((start, _)) if sets::fault(start.m(), open).is_some() => 21,
-        Ok((start, goal)) if rule::reachable_within(&start, &goal, open) => 0,
-        Ok(_) => 15,
-    }
-}
-
-/// The number of a plan by groups, where there is space enough: 21 after 9.
-pub fn groups(start: &[u8], goal: &[u8], groups: &[u16]) -> u8 {
-    match pair(start, goal) {
-        Err(number) => number,
-        Ok((start, _)) if sets::groups_fault(start.m(), groups).is_some() => 21,
-        Ok((start, goal)) if rule::reachable_in_groups(&start, &goal, groups) => 0,
         Ok(_) => 15,
     }
 }

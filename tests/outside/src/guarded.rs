@@ -1,8 +1,8 @@
-//! Bytes, orders or sets of shafts passed to a call, between guards.
+//! Bytes or orders passed to a call, between guards.
 
 use halyard_model::Random;
 
-/// Guards on each side that the tests use, in bytes, in orders or in sets.
+/// Guards on each side that the tests use, in bytes or in orders.
 pub const GUARD: usize = 64;
 
 /// What a guard is made of.
@@ -16,13 +16,7 @@ impl Noise for u8 {
     }
 }
 
-impl Noise for u16 {
-    fn noise(random: &mut Random, count: usize) -> Vec<u16> {
-        (0..count).map(|_| random.word() as u16).collect()
-    }
-}
-
-/// Bytes, orders or sets between two guards of noise, and a copy of all of it from before the call.
+/// Bytes or orders between two guards of noise, and a copy of all of it from before the call.
 pub struct Guarded<T = u8> {
     guard: usize,
     before: Vec<T>,
@@ -78,7 +72,7 @@ mod tests {
     fn each_changed_byte_is_seen() {
         let mut random = Random::new(3);
         for changed in 0..10 {
-            let mut bytes = Guarded::holding(&mut random, 3, &[5u8, 6, 7, 8]);
+            let mut bytes = Guarded::holding(&mut random, 3, &[5, 6, 7, 8]);
             assert_eq!(bytes.content(), [5, 6, 7, 8]);
             assert!(bytes.kept_but(0));
             bytes.now[changed] ^= 1;

@@ -8,8 +8,8 @@ use std::process::ExitCode;
 const USAGE: &str = "usage: halyard-outside SEED COUNT [GUARD]
 
 Compares the C calls with the model in COUNT rounds of random inputs from SEED. GUARD is how many
-guard bytes, or guard orders or sets for a row, stand on each side of what is passed (64); with 0 a memory checker sees every
-byte that is read or written beside it. It stops at the first difference.";
+guard bytes, or guard orders for a row, stand on each side of what is passed (64); with 0 a memory checker sees every byte that
+is read or written beside it. It stops at the first difference.";
 
 struct Arguments {
     seed: u64,

@@ -1,9 +1,9 @@
 //! Rounds of random comparisons. The tests do some with fixed seeds, the executable as many as it is told.
 
 use crate::calls::Caller;
-use crate::{checks, expected, inputs, logs, set_checks, set_inputs};
+use crate::{checks, expected, inputs, logs};
 use halyard_model::image::{self, Form};
-use halyard_model::{Random, Store, play, sets};
+use halyard_model::{Random, Store, play};
 
 /// A pair of stores through the yes or no, the plan, and the replay of what was planned.
 pub fn pair(caller: &mut Caller, random: &mut Random) {
@@ -16,41 +16,6 @@ pub fn pair(caller: &mut Caller, random: &mut Random) {
     let planned = caller.plan(&start_image, &goal_image, list_len);
     let list = &planned.space.content()[..planned.answer.count as usize];
     checks::replay(caller, &start_image, list, start_image.len());
-}
-
-/// A pair of stores through the yes or no and the plan within a set of open shafts.
-pub fn within(caller: &mut Caller, random: &mut Random) {
-    let start = inputs::store(random);
-    let open = set_inputs::open(random, start.m());
-    let goal = set_inputs::goal_within(random, &start, open);
-    let list_len = inputs::list_len(random, &start);
-    let (from, to) = (inputs::image(random, &start), inputs::image(random, &goal));
-    set_checks::within(caller, &from, &to, open, list_len);
-}
-
-/// A pair of stores through the plan by groups.
-pub fn groups(caller: &mut Caller, random: &mut Random) {
-    let start = inputs::store(random);
-    let groups = set_inputs::groups(random, start.m());
-    let goal = set_inputs::goal_in_groups(random, &start, &groups);
-    let list_len = inputs::list_len(random, &start);
-    let (from, to) = (inputs::image(random, &start), inputs::image(random, &goal));
-    set_checks::groups(caller, &from, &to, &groups, list_len);
-}
-
-/// Damaged bytes as start, as goal and as both, with any set and any groups.
-pub fn sets_on_damage(caller: &mut Caller, random: &mut Random) {
-    let (bytes, others) = (inputs::damaged(random), inputs::damaged(random));
-    let store = inputs::store(random);
-    let image = inputs::image(random, &store);
-    let list_len = inputs::list_len(random, &store);
-    let any = random.word() as u16;
-    let open = *random.one_of(&[0, 1, 7, 0xFFFF, any]);
-    let groups = set_inputs::groups(random, store.m());
-    for (start, goal) in [(&bytes, &image), (&image, &bytes), (&bytes, &others)] {
-        set_checks::within(caller, start, goal, open, list_len);
-        set_checks::groups(caller, start, goal, &groups, list_len);
-    }
 }
 
 /// Damaged bytes through every call on bytes alone, in each place of an image. Rows of orders and logs have rounds of their own.
@@ -137,38 +102,6 @@ pub fn list_lengths(caller: &mut Caller, random: &mut Random) {
     }
 }
 
-/// The same within a set and by groups, also into what the open shafts by themselves would ask for.
-pub fn list_lengths_of_sets(caller: &mut Caller, random: &mut Random) {
-    let start = inputs::store(random);
-    let open = set_inputs::open(random, start.m());
-    let groups = set_inputs::division(random, start.m());
-    let need = start.list_space();
-    let around = need.saturating_sub(3)..need + 4;
-    let from = inputs::image(random, &start);
-    let goal = set_inputs::goal_within(random, &start, open);
-    let to = inputs::image(random, &goal);
-    let count = caller.plan_within(&from, &to, open, need).answer.count as usize;
-    let part = part_space(&start, open & sets::all(start.m()));
-    for list_len in around.clone().chain([0, count, count + 1, part]) {
-        set_checks::within(caller, &from, &to, open, list_len);
-    }
-    let goal = set_inputs::goal_in_groups(random, &start, &groups);
-    let to = inputs::image(random, &goal);
-    let count = caller.plan_groups(&from, &to, &groups, need).answer.count as usize;
-    let parts = groups.iter().map(|&group| part_space(&start, group)).sum();
-    for list_len in around.chain([0, count, count + 1, parts]) {
-        set_checks::groups(caller, &from, &to, &groups, list_len);
-    }
-}
-
-/// What a store of the shafts of a set alone would ask for.
-fn part_space(store: &Store, set: u16) -> usize {
-    match set {
-        0 => 0,
-        _ => sets::part(store, set).list_space(),
-    }
-}
-
 /// A replay into space of each length around that of the image, by a list that is legal and by one that stops, a log that is true, one that is not and one of a
 /// wrong length, and a conversion to each form into space of each
 /// length around that of what is written.
@@ -210,10 +143,7 @@ pub fn orders(caller: &mut Caller, random: &mut Random) {
 pub fn all(caller: &mut Caller, random: &mut Random) {
     for _ in 0..4 {
         pair(caller, random);
-        within(caller, random);
-        groups(caller, random);
         damage(caller, random);
-        sets_on_damage(caller, random);
         replay(caller, random);
         log(caller, random);
         log_noise(caller, random);
@@ -221,6 +151,5 @@ pub fn all(caller: &mut Caller, random: &mut Random) {
         orders(caller, random);
     }
     list_lengths(caller, random);
-    list_lengths_of_sets(caller, random);
     out_lengths(caller, random);
 }

@@ -70,7 +70,7 @@ fn the_example_of_the_header() {
     gives(EXAMPLE, &log, 0, 4, "3x2: [] [2] [3 1]");
     for line in [
         "HALYARD_LOG_MALFORMED = 19,",
-        "HALYARD_LOG_NUMBER = 20,",
+        "HALYARD_LOG_NUMBER = 20 ",
         "HALYARD_ENTRY_LIFT = 0,",
         "HALYARD_ENTRY_SIGHTING = 1\n",
         "#define HALYARD_ENTRY_BYTES 3\n",

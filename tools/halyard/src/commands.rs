@@ -1,8 +1,7 @@
 //! What the tool does for each of its commands.
 
 use crate::files::{self, read_image, read_list, read_log_text, read_store, written};
-use crate::locked::Allowed;
-use crate::{depth, draw, followed, locked, played, reached};
+use crate::{depth, draw, followed, played};
 use halyard_model::store::BLANK;
 use halyard_model::{Store, image, text};
 
@@ -19,7 +18,6 @@ halyard: stores as text and as images, and lists played and logs followed for a 
   halyard play STORE LIST          draw a store, and again after each lift of a list, and count the carries
   halyard play --end STORE LIST    draw a store only as the list leaves it, and count the carries
   halyard leads START GOAL LIST    say whether a list leads from start to goal
-  halyard reachable START GOAL     say whether some list of lifts leads from start to goal, and if not, why
   halyard depth STORE CASSETTE…    draw a store, and say what is to be lifted away from each cassette
   halyard log STORE LOG            follow a log of the changer: say what each entry says, up to the first
                                    that can't be true, and draw the store there
@@ -32,10 +30,6 @@ b is a blank carrier, which may stand more than once; its cassette number, {BLAN
 Images are read in the forms 0, 1 and 2, and written in the form named, or else in the first that can
 hold the store: form 0 equal depths alone, forms 0 and 1 cassettes up to 254 and blanks alone, form 2
 every store.
-With --open SHAFTS 'leads' and 'reachable' go by lifts that leave and enter only these shafts, such as
-'0,2,5', or '' for none, and with --groups GROUPS, such as '0,1/2,3,4', by lifts that do not go from one
-group to another. Each shaft is then in one group, and in a list all lifts of a group come before those of
-the next.
 STORE, START and GOAL are an image file or TEXT. LIST is a file that has what the program 'plan'
 printed, or '-' for standard input; with --bytes it has a byte for each lift, as the C calls write it.
 The carries are how often each cassette of the store was carried, blanks together, up to a lift that
@@ -77,12 +71,8 @@ pub fn run(words: &[&str]) -> Result<Said, String> {
         let bytes = image_in(&text::read(text)?, form)?;
         return Ok(written(&bytes, file)?.into());
     }
-    let (allowed, words) = locked::split(words)?;
     let (options, words): (Vec<&str>, Vec<&str>) =
         words.iter().partition(|word| word.starts_with("--"));
-    if allowed != Allowed::Any && !matches!(words.first(), Some(&("leads" | "reachable"))) {
-        return Err(not_understood());
-    }
     let known: &[&str] = match words.first() {
         Some(&"play") => &["--bytes", "--end"],
         Some(&"leads") => &["--bytes"],
@@ -110,11 +100,7 @@ pub fn run(words: &[&str]) -> Result<Said, String> {
         }
         ["leads", start, goal, list] => {
             let (start, goal) = (read_store(start)?, read_store(goal)?);
-            Ok(played::leads(&start, &goal, &read_list(list, bytes)?, &allowed)?.into())
-        }
-        ["reachable", start, goal] => {
-            let (start, goal) = (read_store(start)?, read_store(goal)?);
-            Ok(reached::run(&start, &goal, &allowed)?.into())
+            Ok(played::leads(&start, &goal, &read_list(list, bytes)?)?.into())
         }
         ["depth", store, ref cassettes @ ..] if !cassettes.is_empty() => {
             depth::run(&read_store(store)?, cassettes)
@@ -145,7 +131,7 @@ fn image_in(store: &Store, word: &str) -> Result<Vec<u8>, String> {
     })
 }
 
-/// What a number says of an image, of two stores, of a lift, of an order, of a form to be written, of a log or of sets of shafts.
+/// What a number says of an image, of two stores, of a lift, of an order, of a form to be written or of a log.
 pub fn meaning(number: u8) -> &'static str {
     match number {
         1 => "the form is above 2",
@@ -155,11 +141,9 @@ pub fn meaning(number: u8) -> &'static str {
         5 => "a cassette that stood earlier and is no blank",
         7 => "a padding bit set, or bytes after the padding",
         8 => "the two stores differ in their count of shafts or in a depth",
-        9 => "the two stores differ in how often a number stands",
         11 => "a shaft that is not there, or one shaft twice",
         13 => "the shaft left is empty",
         14 => "the shaft entered is full, by its own depth",
-        15 => "no list of lifts leads to the goal",
         16 => "it is not in the store",
         17 => "no list of lifts uncovers it",
         18 => {
@@ -168,7 +152,6 @@ pub fn meaning(number: u8) -> &'static str {
         }
         19 => "the length of the log, or an entry of it, is malformed",
         20 => "the number is not the one that the store shows",
-        21 => "a shaft that is not there, in two groups or in none",
         _ => "which nothing gets here",
     }
 }
@@ -468,74 +451,6 @@ mod tests {
         assert!(run(&["leads", EXAMPLE, EXAMPLE, &refused.0]).is_err());
     }
 
-    /// A list that leads to the goal, but not with each of these shafts open or by each of these groups.
-    #[test]
-    fn a_list_with_some_shafts_locked() {
-        let list = Scratch::holding("locked", b"lifts 2\n0>1\n2>3\n");
-        let (start, goal) = ("4x1: [1] [] [2] []", "4x1: [] [1] [] [2]");
-        let leads = |option, sets| run(&["leads", option, sets, start, goal, &list.0]);
-        for (option, sets, how) in [
-            ("--open", "0,1,2,3", " with shafts 0, 1, 2 and 3 open"),
-            ("--groups", "0,1/2,3", " without a lift between groups"),
-            ("--groups", "/0,1,2,3", " without a lift between groups"),
-        ] {
-            let said = leads(option, sets).unwrap();
-            assert_eq!(said.text, format!("2 lifts lead to the goal{how}\n"));
-        }
-        for (option, sets, wrong) in [
-            (
-                "--open",
-                "0,1,2",
-                "lift 2 of 2, 2>3, leaves or enters a locked shaft",
-            ),
-            (
-                "--open",
-                "",
-                "lift 1 of 2, 0>1, leaves or enters a locked shaft",
-            ),
-            (
-                "--groups",
-                "2,3/0,1",
-                "lift 2 of 2, 2>3, comes after a lift of a later group",
-            ),
-            (
-                "--groups",
-                "0/1/2,3",
-                "lift 1 of 2, 0>1, goes from one group to another",
-            ),
-            ("--groups", "0,1/2", "refused 21, "),
-            ("--open", "0,4", "refused 21, "),
-            ("--open", "0,16", "'16' is no number of a shaft"),
-        ] {
-            let said = leads(option, sets).unwrap_err();
-            assert!(said.starts_with(wrong), "{said}");
-        }
-    }
-
-    #[test]
-    fn whether_a_goal_can_be_reached() {
-        let goal = "3x2: [1] [2] [3]";
-        let said = prints(&["reachable", EXAMPLE, goal]);
-        assert_eq!(said, "some list of lifts leads to the goal\n");
-        let said = prints(&["reachable", "--open", "0,1", EXAMPLE, goal]);
-        assert_eq!(
-            said,
-            "some list of lifts leads to the goal with shafts 0 and 1 open\n"
-        );
-        let wrong = run(&["reachable", EXAMPLE, goal, "--groups", "0,2/1"]).unwrap_err();
-        let why = ": shafts 0 and 2, a group, would have other cassettes";
-        assert!(
-            wrong.starts_with("refused 15, ") && wrong.ends_with(why),
-            "{wrong}"
-        );
-        let wrong = run(&["reachable", "--open", "0,3", EXAMPLE, goal]).unwrap_err();
-        let why = ": the set has shaft 3, and the last that is there is 2";
-        assert!(
-            wrong.starts_with("refused 21, ") && wrong.ends_with(why),
-            "{wrong}"
-        );
-    }
-
     #[test]
     fn words_that_say_nothing() {
         let blank = format!("its cassette number, {BLANK}, says the same");
@@ -555,20 +470,6 @@ mod tests {
             &["log", "--write"],
             &["log", "--bytes", EXAMPLE, "log"],
             &["show", "--write", EXAMPLE],
-            &["reachable", EXAMPLE],
-            &["reachable", "--bytes", EXAMPLE, EXAMPLE],
-            &["reachable", EXAMPLE, EXAMPLE, "--open"],
-            &[
-                "reachable",
-                "--open",
-                "0",
-                "--groups",
-                "0",
-                EXAMPLE,
-                EXAMPLE,
-            ],
-            &["show", "--open", "0", EXAMPLE],
-            &["play", "--groups", "0", EXAMPLE, "list"],
         ];
         for words in unknown {
             assert!(run(words).is_err(), "{words:?}");

@@ -5,9 +5,7 @@ mod depth;
 mod draw;
 mod files;
 mod followed;
-mod locked;
 mod played;
-mod reached;
 
 use std::io::Write;
 use std::process::ExitCode;

@@ -13,8 +13,7 @@ use lib.Seq.{set-get_or}
 use Rattle.marks.specs.Cassettes.{is_blank}
 use Rattle.marks.specs.Marking.{with_mark}
 use Rattle.marks.proofs.Words.{bit_lt}
-use Rattle.marks.proofs.mark.Statement.{statement}
-use Rattle.marks.proofs.mark.Tie as tie
+use Rattle.marks.proofs.mark.Goals as goal
 
 -- the word with the bit of a cassette, or with none
 bit-set : (w : List ℕ) (c : ℕ) (b : Bool) → set w (c / 64) (bit_or (get_or w (c / 64) 0) (bool_byte (not b) * 2 ^ (c % 64) % 2 ^ 64)) ≡ cond b w (with_mark w c)
@@ -26,19 +25,15 @@ bit-set w c false =
     let b : 1 * 2 ^ (c % 64) % 2 ^ 64 ≡ 2 ^ (c % 64) = ap (λ (n : ℕ). n % 2 ^ 64) (one-mul _) ∙ mod-eq_of_lt (bit_lt (c % 64) (omega arith)) in
     rw b refl
 
-cast-k : tie.Need-overflow-cast-k
-cast-k c = let h : bit_and c.args.c 63 < 64 = mask_lt c.args.c 6 in omega arith
 
-shl-words : tie.Need-overflow-shl-words
-shl-words c = mask_lt c.before.before.before.args.c 6
+pub overflow_cast-k : goal.overflow_cast-k
+overflow_cast-k c = let h : bit_and c.args.c 63 < 64 = mask_lt c.args.c 6 in omega arith
 
-returns : tie.Need-returns
+pub overflow_shl-words : goal.overflow_shl-words
+overflow_shl-words c = mask_lt c.args.c 6
+
+pub returns : goal.returns
 returns c =
-    let a = c.before.before.before.args in
+    let a = c.args in
     let e : bit_and a.c 63 ≡ a.c % 64 = and_mask a.c 6 in
-    simp (c.word.ensures, e, c.before.before.is-blank.ensures) (bit-set a.words.now a.c (is_blank a.c))
-
-pub mark_spec : {M : Type 1} → statement M
-mark_spec =
-    tie.close
-    (tie.spec (λ c. search rules) cast-k (λ c κs. search rules) (λ c. search rules) (λ c κs. search rules) shl-words (λ c. search rules) (λ c. search rules) returns)
+    simp (c.word.ensures, e, c.is_blank.ensures) (bit-set a.words.now a.c (is_blank a.c))

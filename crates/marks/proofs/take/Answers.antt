@@ -1,0 +1,31 @@
+-- `take` meets its contract: 4, then 5, or the cassette taken.
+use borrow.Author.Rules.{rules}
+use borrow.Author.Tests.{not-true, not-false}
+use mathlib.Core.Bool.{true}
+use mathlib.Core.Path.{◌≡◌, sym, ◌∙◌, subst}
+use mathlib.Core.List.{List}
+use Prim.Native.Nat.{ℕ}
+use Rattle.marks.specs.declared.Taken.TheVariants.{Added}
+use Rattle.marks.specs.Taking.{TakenIs}
+use Rattle.marks.specs.Cassettes.{is_cassette}
+use Rattle.marks.proofs.Takes.{cassette_range, none_is, twice_is, added_is}
+use Rattle.marks.proofs.take.Goals as goal
+
+-- past the first test the number is a cassette's
+one : (c : tie.Else1) → is_cassette c.before.before.args.c ≡ true
+one c = sym c.before.is-cassette.ensures ∙ not-false _ c.if1.false
+
+
+pub returns-then-not-is_cassette : goal.returns-then-not-is_cassette
+returns-then-not-is_cassette c = none_is c.args.words.now c.args.c (sym c.is_cassette.ensures ∙ not-true _ c.if-not-is_cassette.true)
+
+pub returns-then-has : goal.returns-then-has
+returns-then-has c =
+    let a = c.args in
+    twice_is a.words.now a.c (one e) (sym c.has.ensures ∙ c.if-has.true)
+
+pub returns : goal.returns
+returns c =
+    let a = c.args in
+    subst (λ (w : List ℕ). TakenIs a.words.now a.c w Added) (sym c.mark.ensures)
+    (added_is a.words.now a.c (one e) (sym c.has.ensures ∙ c.if-has.false))
