@@ -2,7 +2,7 @@
 use borrow.Author.Tests.{eq-eqb, ne_eqb, eqb-true, eqb-false}
 use mathlib.Core.Bool.{Bool, true, false}
 use mathlib.Core.List.{List, [], ◌∷◌, ◌++◌, append_assoc, append-nil}
-use mathlib.Core.Path.{◌≡◌, refl, sym, ap, ◌∙◌}
+use mathlib.Core.Path.{◌≡◌, refl, sym, ap, ◌∙◌, subst}
 use Prim.Native.Nat.{ℕ, zero, suc, ◌+◌, ◌-◌, ◌*◌, ◌/◌, ◌%◌, ◌^◌, ◌≤◌, ◌<◌}
 use native.Mathlib.Nat.{pow-suc, mod-lt, add-zero, add-suc, div-one, suc-mul, not-suc-le-zero, zero-lt-suc}
 use native.Mathlib.Numerals.{add-one, one-add}
@@ -50,7 +50,9 @@ unfolding bits field
 field_bits zero v r h = let e : 2 ^ 0 ≡ 1 = refl in omega arith
 field_bits (suc w) v r h =
     let k : v / 2 < 2 ^ w = omega (arith, pow-suc 2 w) in
-    rw (append_assoc, field_bits w (v / 2) (odd v ∷ r) k, get_or_at (bits w (v / 2)) (odd v) r false w (length_bits w (v / 2)), digit_odd v) (omega arith)
+    let e : bits (suc w) v ++ r ≡ bits w (v / 2) ++ (odd v ∷ r) = append_assoc (bits w (v / 2)) (odd v ∷ []) r in
+    subst (λ (l : List Bool). field l (suc w) ≡ v) (sym e)
+    (rw (field_bits w (v / 2) (odd v ∷ r) k, get_or_at (bits w (v / 2)) (odd v) r false w (length_bits w (v / 2)), digit_odd v) (omega arith))
 
 pub field_lt : (l : List Bool) (w : ℕ) → field l w < 2 ^ w
 unfolding field

@@ -20,7 +20,7 @@ loop-i-preserved c =
     let n : length w ≡ mark_words = search rules in
     let h : c.loop-i.i < mark_words = c.loop-i-test.true in
     let more = ap (λ (k : ℕ). mark_count (take k w)) (add-one c.loop-i.i) ∙ count_more w c.loop-i.i (omega arith) in
-    (omega arith, omega (arith, more, c.ones_of-n.ensures.0, c.loop-i.invariant.1), omega (arith, c.loop-i.invariant.2, c.ones_of-n.ensures.1))
+    (omega arith, omega (arith, more, c.ones_of-n.ensures.ones, c.loop-i.invariant.1), omega (arith, c.loop-i.invariant.2, c.ones_of-n.ensures.most))
 
 pub returns : goal.returns
 returns c =

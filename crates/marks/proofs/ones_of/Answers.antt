@@ -8,4 +8,4 @@ pub overflow_cast-result : goal.overflow_cast-result
 overflow_cast-result c = omega (arith, ones-le 64 c.args.w c.ranges.w.fits)
 
 pub returns : goal.returns
-returns c = (refl, ones-le 64 c.args.w c.ranges.w.fits)
+returns c = record { ones = refl; most = ones-le 64 c.args.w c.ranges.w.fits }

@@ -1,0 +1,36 @@
+-- `part_reachable` meets its contract: no shaft, other cassettes, or the rule for the shafts of the set.
+use borrow.Author.Rules.{rules}
+use mathlib.Core.Path.{sym, ap, ◌∙◌, subst₂}
+use Rattle.stacks.specs.Deciding.{Decides}
+use Rattle.stacks.proofs.Deciding.{holds, fails}
+use Rattle.store.specs.declared.Store.{Store}
+use Rattle.store.specs.Lists.{Reachable}
+use Rattle.store.proofs.Acceptance.{accepted_shaped}
+use Rattle.reach.proofs.RuleTests.{by_rule}
+use Rattle.pairs.proofs.Answers.{comparable_by, count_by}
+use Rattle.apart.proofs.ApartLaws.{part_none, part_refused}
+use Rattle.apart.proofs.part_reachable.Goals as goal
+
+pub part_of-a-requires : goal.part_of-a-requires
+part_of-a-requires c = (accepted_shaped _ c.requires.start).shafts
+
+pub returns-then-a-eq0 : goal.returns-then-a-eq0
+returns-then-a-eq0 c =
+    holds (part_none _ _ _ c.requires (sym (ap (λ (u : Store). u.m) c.part_of-a.ensures) ∙ c.if-a-eq0.true))
+
+pub part_of-b-requires : goal.part_of-b-requires
+part_of-b-requires c = (accepted_shaped _ c.requires.goal).shafts
+
+pub returns-in-Refused : goal.returns-in-Refused
+returns-in-Refused c =
+    fails (part_refused c.args.some c.args.start c.args.goal c.requires c.part_of-a.ensures c.part_of-b.ensures c.if-a-eq0.false c.compare-compared.ensures c.pair-1.given.1)
+
+pub rule_holds-requires : goal.rule_holds-requires
+rule_holds-requires c =
+    (comparable_by _ _ _ c.compare-compared.ensures c.enum_told-1.given.1, count_by _ _ _ c.compare-compared.ensures c.enum_told-1.given.1)
+
+pub returns : goal.returns
+returns c =
+    let p = comparable_by _ _ _ c.compare-compared.ensures c.enum_told-1.given.1 in
+    let d = by_rule _ _ p c.rule_holds.ensures in
+    subst₂ (λ (u v : Store). Decides c.rule_holds.result (Reachable u v)) c.part_of-a.ensures c.part_of-b.ensures d

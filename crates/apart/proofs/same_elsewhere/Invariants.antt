@@ -1,0 +1,17 @@
+-- `same_elsewhere` meets its contract. The invariant: the shafts passed are in some set, or the same.
+use borrow.Author.Count.{below_none, below_more}
+use borrow.Author.Rules.{rules}
+use borrow.Author.Tests.{not-true, not-false}
+use mathlib.Core.Path.{◌≡◌, refl}
+use Prim.Native.Nat.{ℕ, ◌-◌, ◌≤◌, ◌<◌}
+use native.Mathlib.Omega.{arith}
+use Rattle.stacks.proofs.Deciding.{holds, fails}
+use Rattle.store.specs.Slots.{stack}
+use Rattle.sets.specs.Sets.{times_in}
+use Rattle.apart.proofs.same_elsewhere.Given as goal
+
+abbrev pub invariant-loop-x : goal.invariant-loop-x
+invariant-loop-x l = (l.x ≤ l.start.m) × (l.shafts ≡ l.start.m) × ((y : ℕ) → y < l.x → times_in l.row y ≡ 0 → stack l.start y ≡ stack l.goal y)
+
+abbrev pub decreases-loop-x : goal.decreases-loop-x
+decreases-loop-x l = l.shafts - l.x

@@ -1,0 +1,6 @@
+-- `choose` meets its contract.
+use borrow.Author.Rules.{rules}
+use Rattle.choices.proofs.choose.Goals as goal
+
+pub returns-then-playable : goal.returns-then-playable
+returns-then-playable c = c.playable.ensures.so c.if-playable.true

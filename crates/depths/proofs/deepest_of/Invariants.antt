@@ -1,0 +1,15 @@
+-- `deepest_of` meets its contract. The invariant: the greatest of the depths passed.
+use borrow.Author.Rules.{rules}
+use mathlib.Core.Path.{◌≡◌, refl}
+use Prim.Native.Nat.{◌-◌, ◌≤◌}
+use native.Mathlib.Numerals.{add-one}
+use native.Mathlib.Omega.{arith}
+use Rattle.stacks.specs.Count.{greatest}
+use Rattle.depths.specs.Depths.{depth_by}
+use Rattle.depths.proofs.deepest_of.Given as goal
+
+abbrev pub invariant-loop-x : goal.invariant-loop-x
+invariant-loop-x l = (l.shafts ≡ l.m) × (l.x ≤ l.m) × (l.most ≡ greatest l.x (depth_by l.depths))
+
+abbrev pub decreases-loop-x : goal.decreases-loop-x
+decreases-loop-x l = l.shafts - l.x

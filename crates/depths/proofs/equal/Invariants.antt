@@ -1,0 +1,18 @@
+-- `equal` meets its contract. The invariant: the shafts passed have depth h, and the others none so far.
+use borrow.Author.Rules.{rules}
+use mathlib.Core.Path.{◌≡◌, refl, ◌∙◌}
+use Prim.Native.Nat.{ℕ, ◌-◌, ◌≤◌, ◌<◌}
+use native.Mathlib.Decide.{ℕ_discrete}
+use native.Mathlib.Omega.{arith}
+use lib.ListN.{length, length-set}
+use lib.Seq.{get_or-set_same, get_or-set_other}
+use Rattle.marks.proofs.MarkLaws.{zeros}
+use Rattle.lifts.specs.Lifting.{most_shafts}
+use Rattle.depths.specs.Depths.{depth_by}
+use Rattle.depths.proofs.equal.Given as goal
+
+abbrev pub invariant-loop-x : goal.invariant-loop-x
+invariant-loop-x l = (l.x ≤ l.some) × (length l.depths ≡ most_shafts) × ((y : ℕ) → y < l.x → depth_by l.depths y ≡ l.h) × ((y : ℕ) → l.x ≤ y → depth_by l.depths y ≡ 0)
+
+abbrev pub decreases-loop-x : goal.decreases-loop-x
+decreases-loop-x l = l.some - l.x

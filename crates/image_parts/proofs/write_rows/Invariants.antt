@@ -1,0 +1,20 @@
+-- `write_rows` meets its contract: after k turns the first k rows are written.
+use borrow.Author.Rules.{rules}
+use mathlib.Core.Path.{◌≡◌, ap, ◌∙◌}
+use Prim.Native.Nat.{ℕ, suc, ◌-◌, ◌*◌, ◌≤◌}
+use native.Mathlib.Nat.{suc-mul, mul-le-mul, le_refl}
+use native.Mathlib.Omega.{arith}
+use lib.ListN.{length}
+use Rattle.pens.specs.Pens.{Pushes}
+use Rattle.rows.specs.Rows.{rows_up}
+use Rattle.image.specs.Coding.{coded, cassette_bits}
+use Rattle.image.proofs.Coding.{length_cassettes}
+use Rattle.rows.proofs.Upward.{rows_length}
+use Rattle.image_parts.proofs.PartLaws.{no_rows, row_more}
+use Rattle.image_parts.proofs.write_rows.Given as goal
+
+abbrev pub invariant-loop-k : goal.invariant-loop-k
+invariant-loop-k l = (l.k ≤ l.rows) × Pushes (cassette_bits l.w (rows_up l.slots l.x l.k)) l.initial.out l.out l.initial.q l.q
+
+abbrev pub decreases-loop-k : goal.decreases-loop-k
+decreases-loop-k l = l.rows - l.k

@@ -1,0 +1,18 @@
+-- `shafts_in_place` meets its contract. The invariant: the shafts passed are in place.
+use borrow.Author.Rules.{rules}
+use borrow.Author.Tests.{not-true, not-false}
+use mathlib.Core.Bool.{true}
+use mathlib.Core.Path.{◌≡◌, refl, sym, ap, ◌∙◌}
+use Prim.Native.Nat.{ℕ, ◌-◌, ◌≤◌}
+use native.Mathlib.Numerals.{add-one}
+use native.Mathlib.Omega.{arith}
+use Rattle.lifts.specs.Lifting.{most_shafts}
+use Rattle.in_place.specs.InPlace.{all_below, shaft_in_place}
+use Rattle.in_place.proofs.AllBelow.{all_more, all_fails}
+use Rattle.in_place.proofs.shafts_in_place.Given as goal
+
+abbrev pub invariant-loop-x : goal.invariant-loop-x
+invariant-loop-x l = (l.x ≤ most_shafts) × (all_below l.x (shaft_in_place l.m l.depths l.heights l.slots) ≡ true)
+
+abbrev pub decreases-loop-x : goal.decreases-loop-x
+decreases-loop-x l = most_shafts - l.x

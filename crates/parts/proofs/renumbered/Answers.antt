@@ -1,0 +1,18 @@
+-- `renumbered` meets its contract. The invariant: the places passed have their values.
+use borrow.Author.Rules.{rules}
+use mathlib.Core.Path.{refl}
+use Prim.Native.Nat.{ℕ, ◌-◌}
+use native.Mathlib.Numerals.{add-one}
+use lib.ListN.{get_or}
+use Rattle.lifts.specs.Lifting.{most_shafts}
+use Rattle.parts.proofs.Tabulated.{FilledTo, filled_none, filled_more, filled_all}
+use Rattle.parts.proofs.renumbered.Goals as goal
+
+pub loop-i-init : goal.loop-i-init
+loop-i-init c = filled_none _ refl
+
+pub loop-i-preserved : goal.loop-i-preserved
+loop-i-preserved c = rw add-one (filled_more _ c.loop-i.invariant c.loop-i-test.true c.value_at.ensures)
+
+pub returns : goal.returns
+returns c = filled_all _ c.loop-i.invariant c.loop-i-test.false

@@ -1,0 +1,18 @@
+-- `renumbered_slots` meets its contract. The invariant: the places passed have their values.
+use borrow.Author.Rules.{rules}
+use mathlib.Core.Path.{refl}
+use Prim.Native.Nat.{ℕ, suc, ◌-◌, ◌/◌, ◌%◌}
+use native.Mathlib.Numerals.{add-one}
+use lib.ListN.{get_or}
+use Rattle.lifts.specs.Lifting.{slot_count, shown}
+use Rattle.parts.proofs.Tabulated.{FilledTo, filled_none, filled_more, filled_all}
+use Rattle.parts.proofs.renumbered_slots.Goals as goal
+
+pub loop-p-init : goal.loop-p-init
+loop-p-init c = filled_none _ refl
+
+pub loop-p-preserved : goal.loop-p-preserved
+loop-p-preserved c = rw add-one (filled_more _ c.loop-p.invariant c.loop-p-test.true c.row_at.ensures)
+
+pub returns : goal.returns
+returns c = filled_all _ c.loop-p.invariant c.loop-p-test.false

@@ -1,0 +1,39 @@
+-- `same_floors` meets its contract. The invariant: the floors of the shafts passed agree.
+use borrow.Author.Count.{below_none, below_more}
+use borrow.Author.Rules.{rules}
+use borrow.Author.Tests.{not-true, not-false}
+use mathlib.Core.Path.{◌≡◌, refl, subst}
+use Prim.Native.Nat.{ℕ, ◌-◌, ◌≤◌, ◌<◌}
+use native.Mathlib.Omega.{arith}
+use Rattle.stacks.specs.Deciding.{Decides}
+use Rattle.stacks.proofs.Deciding.{holds, fails}
+use Rattle.depths.specs.Depths.{depth_by}
+use Rattle.rows.specs.Rows.{rows_up}
+use Rattle.rules.proofs.same_floors.Goals as goal
+
+-- the rows tested are the floor
+tested : (c : tie.After-same-rows invariant-loop decreases-loop) → let a = c.before.before.before.before.args in let x = c.before.before.before.loop.x in
+    Decides c.same_rows.result (rows_up a.a.now x (depth_by a.depths x - a.e) ≡ rows_up a.b.now x (depth_by a.depths x - a.e))
+tested c =
+    let a = c.before.before.before.before.args in
+    let x = c.before.before.before.loop.x in
+    subst (λ (k : ℕ). Decides c.same_rows.result (rows_up a.a.now x k ≡ rows_up a.b.now x k))
+    c.before.floor-rows.ensures c.same_rows.ensures
+
+
+pub loop-x-init : goal.loop-x-init
+loop-x-init c = (refl, omega arith, below_none _)
+
+pub same_rows-requires : goal.same_rows-requires
+same_rows-requires c =
+    let p = c.requires in
+    (omega (arith, c.loop-x-test.true, p.0), omega (arith, c.floor_rows.ensures, p.1 c.loop-x.x))
+
+pub returns-then-not-same_rows : goal.returns-then-not-same_rows
+returns-then-not-same_rows c = fails λ e. (tested «PLACE After-same_rows»).not_so (not-true _ c.if-not-same_rows.true) (e c.loop-x.x c.loop-x-test.true)
+
+pub loop-x-preserved : goal.loop-x-preserved
+loop-x-preserved c = (refl, omega (arith, c.loop-x-test.true), below_more _ _ c.loop-x.invariant.2 ((tested «PLACE After-same_rows»).so (not-false _ c.if-not-same_rows.false)))
+
+pub returns : goal.returns
+returns c = holds λ y h. c.loop-x.invariant.2 y (omega (arith, c.loop-x-test.false))

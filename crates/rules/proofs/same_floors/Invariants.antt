@@ -1,0 +1,18 @@
+-- `same_floors` meets its contract. The invariant: the floors of the shafts passed agree.
+use borrow.Author.Count.{below_none, below_more}
+use borrow.Author.Rules.{rules}
+use borrow.Author.Tests.{not-true, not-false}
+use mathlib.Core.Path.{◌≡◌, refl, subst}
+use Prim.Native.Nat.{ℕ, ◌-◌, ◌≤◌, ◌<◌}
+use native.Mathlib.Omega.{arith}
+use Rattle.stacks.specs.Deciding.{Decides}
+use Rattle.stacks.proofs.Deciding.{holds, fails}
+use Rattle.depths.specs.Depths.{depth_by}
+use Rattle.rows.specs.Rows.{rows_up}
+use Rattle.rules.proofs.same_floors.Given as goal
+
+abbrev pub invariant-loop-x : goal.invariant-loop-x
+invariant-loop-x l = (l.shafts ≡ l.m) × (l.x ≤ l.shafts) × ((y : ℕ) → y < l.x → rows_up l.a y (depth_by l.depths y - l.e) ≡ rows_up l.b y (depth_by l.depths y - l.e))
+
+abbrev pub decreases-loop-x : goal.decreases-loop-x
+decreases-loop-x l = l.shafts - l.x

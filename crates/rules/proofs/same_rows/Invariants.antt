@@ -1,0 +1,16 @@
+-- `same_rows` meets its contract. The invariant: the rows passed show the same.
+use borrow.Author.Count.{below_more}
+use borrow.Author.Rules.{rules}
+use mathlib.Core.Path.{◌≡◌, sym, ◌∙◌}
+use Prim.Native.Nat.{ℕ, suc, ◌-◌, ◌≤◌, ◌<◌}
+use native.Mathlib.Omega.{arith}
+use Rattle.stacks.proofs.Deciding.{holds, fails}
+use Rattle.lifts.specs.Lifting.{shown}
+use Rattle.rules.proofs.Places.{rows_so, rows_each}
+use Rattle.rules.proofs.same_rows.Given as goal
+
+abbrev pub invariant-loop-i : goal.invariant-loop-i
+invariant-loop-i l = (l.i ≤ l.k) × ((j : ℕ) → j < l.i → shown l.a l.x (suc j) ≡ shown l.b l.x (suc j))
+
+abbrev pub decreases-loop-i : goal.decreases-loop-i
+decreases-loop-i l = l.k - l.i

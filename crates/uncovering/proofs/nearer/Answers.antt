@@ -1,0 +1,18 @@
+-- `nearer` meets its contract, case by case.
+use borrow.Author.Rules.{rules}
+use mathlib.Core.Path.{sym, ap, ap₂, ◌∙◌}
+use Rattle.uncovering.specs.declared.Uncovering.TheVariants.{After}
+use Rattle.uncovering.specs.Nearest.{nearer_of}
+use Rattle.uncovering.proofs.nearer.Goals as goal
+
+pub returns-in-After-b : goal.returns-in-After-b
+returns-in-After-b c = sym (ap₂ nearer_of c.enum_told-in-Buried-1.given.1 c.b-1.given.1)
+
+pub returns-in-Absent-b-2 : goal.returns-in-Absent-b-2
+returns-in-Absent-b-2 c = sym (ap₂ nearer_of c.a-1.given.1 c.enum_told-in-Absent-b-2-1.given.1)
+
+pub returns-in-Buried-b-2 : goal.returns-in-Buried-b-2
+returns-in-Buried-b-2 c = sym (ap₂ nearer_of c.a-1.given.1 c.enum_told-in-Buried-b-2-1.given.1)
+
+pub returns-in-After-b-2 : goal.returns-in-After-b-2
+returns-in-After-b-2 c = ap After c.fewer.ensures ∙ sym (ap₂ nearer_of c.a-1.given.1 c.b-in-After-1.given.1)
