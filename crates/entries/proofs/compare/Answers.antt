@@ -49,8 +49,8 @@ free c = sym (ap truth_number c.enum_told-1.given.1) ∙ c.judge_entry.ensures
 
 pub returns-then-not-shows : goal.returns-then-not-shows
 returns-then-not-shows c =
-    only_truth (sym (fault_number_lem (came c) _ (well c) (sym (free «PLACE After-shows-arg»)) (eqb-false _ _ (sym c.shows.ensures ∙ not-true _ c.if-not-shows.true))))
+    only_truth (sym (fault_number_lem (came c) _ (well c) (sym (free «PLACE After-shows-arg»)) (eqb-false _ _ (sym c.shows.ensures ∙ c.if-not-shows.true))))
 
 pub returns : goal.returns
 returns c =
-    only_truth (sym (fault_none (came c) _ (well c) (sym (free «PLACE After-shows-arg»)) (eqb-true _ _ (sym c.shows.ensures ∙ not-false _ c.if-not-shows.false))))
+    only_truth (sym (fault_none (came c) _ (well c) (sym (free «PLACE After-shows-arg»)) (eqb-true _ _ (sym c.shows.ensures ∙ c.if-not-shows.false))))

@@ -46,7 +46,7 @@ pub returns-then-not-same_frame : goal.returns-then-not-same_frame
 returns-then-not-same_frame c =
     let a = c.args in
     refused_as _ _ _ _ c.refused-then-not-same_frame.ensures
-    (((start-marked «PLACE After-enum_told»).0, (goal-marked c).0), frames_differ a.start a.goal (c.same_frame_lem!!.ensures.not_so (not-true _ c.if-not-same_frame.true)))
+    (((start-marked «PLACE After-enum_told»).0, (goal-marked c).0), frames_differ a.start a.goal (c.same_frame.ensures.not_so (c.if-not-same_frame.true)))
 
 pub blanks_of-blanks-requires : goal.blanks_of-blanks-requires
 blanks_of-blanks-requires c = (start-marked «PLACE After-enum_told»).0
@@ -60,9 +60,9 @@ returns-then-not-same_cassettes c =
     refused_as _ _ _ _ c.refused-then-not-same_cassettes.ensures (
       ((start-marked c).0, (goal-marked c).0),
       (
-        frames_agree a.start a.goal (c.same_frame_lem!!.ensures.so (not-false _ c.if-not-same_frame.false)),
+        frames_agree a.start a.goal (c.same_frame.ensures.so (c.if-not-same_frame.false)),
         cassettes_differ _ _ _ _ (start-marked c) (goal-marked c) c.blanks_of-blanks.ensures c.blanks_of-goal_blanks.ensures
-            (start-words «PLACE After-check») (goal-words «PLACE After-check2») (c.same_cassettes.ensures.not_so (not-true _ c.if-not-same_cassettes.true)),
+            (start-words «PLACE After-check») (goal-words «PLACE After-check2») (c.same_cassettes.ensures.not_so (c.if-not-same_cassettes.true)),
       ),
     )
 
@@ -78,5 +78,5 @@ overflow_add-n c =
 pub returns : goal.returns
 returns c =
     compared_as _ _
-    (cassettes_agree _ _ _ _ (start-marked «PLACE After-enum_told») (goal-marked c) c.blanks_of-blanks.ensures c.blanks_of-goal_blanks.ensures (c.same_frame_lem!!.ensures.so (not-false _ c.if-not-same_frame.false))
-    (c.same_cassettes.ensures.so (not-false _ c.if-not-same_cassettes.false))) (counted c)
+    (cassettes_agree _ _ _ _ (start-marked «PLACE After-enum_told») (goal-marked c) c.blanks_of-blanks.ensures c.blanks_of-goal_blanks.ensures (c.same_frame.ensures.so (c.if-not-same_frame.false))
+    (c.same_cassettes.ensures.so (c.if-not-same_cassettes.false))) (counted c)

@@ -22,12 +22,12 @@ tested c =
     by_arrays s d a b ∙ sym c.arrays_in_place.ensures
 
 placed : (c : goal.Else-not-arrays_in_place) → in_place c.args.self ≡ true
-placed c = tested «PLACE After-arrays_in_place» ∙ not-false _ c.if-not-arrays_in_place.false
+placed c = tested «PLACE After-arrays_in_place» ∙ c.if-not-arrays_in_place.false
 
 pub returns-then-not-arrays_in_place : goal.returns-then-not-arrays_in_place
 returns-then-not-arrays_in_place c =
     refused_is _ _ _ _ c.refused.ensures
-    (out_of_place c.args.self (tested «PLACE After-arrays_in_place» ∙ not-true _ c.if-not-arrays_in_place.true))
+    (out_of_place c.args.self (tested «PLACE After-arrays_in_place» ∙ c.if-not-arrays_in_place.true))
 
 pub check_shafts-requires : goal.check_shafts-requires
 check_shafts-requires c =

@@ -13,7 +13,7 @@ use Rattle.store.proofs.Store.content.Goals as goal
 
 -- past the test the store has the slot
 there : (c : goal.Else-not-has_slot) → has_slot c.args.self c.args.x.0 c.args.y.0 ≡ true
-there c = sym c.has_slot.ensures ∙ not-false _ c.if-not-has_slot.false
+there c = sym c.has_slot.ensures ∙ c.if-not-has_slot.false
 
 range : (c : goal.Else-not-has_slot) → (c.args.x.0 < most_shafts) × ((0 < c.args.y.0) × (c.args.y.0 ≤ most_rows))
 range c = slot_range c.args.self.m c.args.self.depths c.args.x.0 c.args.y.0 (there c)
@@ -21,7 +21,7 @@ range c = slot_range c.args.self.m c.args.self.depths c.args.x.0 c.args.y.0 (the
 pub returns-then-not-has_slot : goal.returns-then-not-has_slot
 returns-then-not-has_slot c =
     let a = c.args in
-    content_none a.t1 a.x.0 a.y.0 (sym c.has_slot.ensures ∙ not-true _ c.if-not-has_slot.true)
+    content_none a.t1 a.x.0 a.y.0 (sym c.has_slot.ensures ∙ c.if-not-has_slot.true)
 
 pub overflow_sub-result : goal.overflow_sub-result
 overflow_sub-result c = omega (arith, range «PLACE Else1»)
