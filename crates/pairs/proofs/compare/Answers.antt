@@ -26,21 +26,19 @@ goal-words c i = let f : Fits w64 (get_or c.check2.result.marks i 0) = search ru
 
 -- where neither store is refused: both are accepted, and their marks are those of their cassettes
 start-marked : (c : goal.In_default) → AcceptedMarks c.args.start c.check-first.result.marks
-start-marked c = accepted_none _ _ _ c.check-first.ensures c.enum_told-1.given.1
+start-marked c = accepted_none _ _ _ c.check-first.ensures c.in_default.is
 
 goal-marked : (c : goal.In_default-goal_verdict) → AcceptedMarks c.args.goal c.check-second.result.marks
-goal-marked c = accepted_none _ _ _ c.check-second.ensures c.enum_told-in_default-goal_verdict-1.given.1
+goal-marked c = accepted_none _ _ _ c.check-second.ensures c.in_default-goal_verdict.is
 
 pub returns-in-Refused : goal.returns-in-Refused
 returns-in-Refused c =
-    let v = c.start_verdict-1.given in
-    refused_as _ _ _ _ c.refused.ensures (refused_one v.0.0 _ _ _ c.check-first.ensures v.1)
+    refused_as _ _ _ _ c.refused.ensures (refused_one c.in-Refused.start_verdict _ _ _ c.check-first.ensures c.in-Refused.is)
 
 pub returns-in-Refused-goal_verdict : goal.returns-in-Refused-goal_verdict
 returns-in-Refused-goal_verdict c =
-    let v = c.goal_verdict-1.given in
     refused_as _ _ _ _ c.refused-in-Refused-goal_verdict.ensures
-    ((start-marked «PLACE After-enum_told»).0, refused_one v.0.0 _ _ _ c.check-second.ensures v.1)
+    ((start-marked «PLACE After-enum_told»).0, refused_one c.in-Refused.start_verdict _ _ _ c.check-second.ensures c.in-Refused.is)
 
 pub returns-then-not-same_frame : goal.returns-then-not-same_frame
 returns-then-not-same_frame c =
