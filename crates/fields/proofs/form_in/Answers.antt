@@ -24,11 +24,11 @@ some bytes v e = (there (bits_of bytes) form_width v e).value
 
 
 pub returns-in-Missing : goal.returns-in-Missing
-returns-in-Missing c = none _ (sym c.read_field.ensures ∙ c.type_inv.image.1)
+returns-in-Missing c = none _ (sym c.in-Missing.ensures)
 
 -- the value read is the form
-is : (c : goal.In-Value) → c.type_inv.image.0.0 ≡ form_in c.args.image.now
-is c = some _ _ (sym c.read_field.ensures ∙ c.type_inv.image.1)
+is : (c : goal.In-Value) → c.in-Value.v ≡ form_in c.args.image.now
+is c = some _ _ (sym c.in-Value.ensures)
 
 pub overflow_cast-result : goal.overflow_cast-result
 unfolding form_in

@@ -11,9 +11,9 @@ pub returns-in-Missing : goal.returns-in-Missing
 returns-in-Missing c =
     let a = c.args in
     rw c.stopped-in-Missing.ensures
-    (field_missing a.image.now a.w a.c c.if-c-ne0.false (sym c.read_field.ensures ∙ c.type_inv.image.1))
+    (field_missing a.image.now a.w a.c c.if-c-ne0.false (sym c.in-Missing.ensures))
 
 pub returns-in-Value : goal.returns-in-Value
 returns-in-Value c =
     let a = c.args in
-    field_found a.image.now a.w a.c c.if-c-ne0.false _ (sym c.read_field.ensures ∙ c.type_inv.image.1)
+    field_found a.image.now a.w a.c c.if-c-ne0.false _ (sym c.in-Value.ensures)
