@@ -1,7 +1,6 @@
 -- `next_field` meets its contract: a fault is kept, a missing field is 2, and a field that is there is its value.
-use mathlib.Core.Path.{sym, ◌∙◌}
+use mathlib.Core.Path.{sym}
 use Rattle.fields.proofs.Cursors.{field_kept, field_missing, field_found}
-use borrow.Author.Rules.{rules}
 use Rattle.fields.proofs.next_field.Goals as goal
 
 pub returns-then-c-ne0 : goal.returns-then-c-ne0

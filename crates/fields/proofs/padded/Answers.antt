@@ -1,8 +1,7 @@
 -- `padded` meets its contract: no bit left, a whole byte or more left, or the bits left as one field.
-use mathlib.Core.Path.{sym, ◌∙◌}
+use mathlib.Core.Path.{sym}
 use native.Mathlib.Omega.{arith}
 use Rattle.fields.proofs.Endings.{nothing_left, bytes_left, bits_left, not_missing}
-use borrow.Author.Rules.{rules}
 use Rattle.fields.proofs.padded.Goals as goal
 
 pub returns-then-image-at : goal.returns-then-image-at
