@@ -3,7 +3,7 @@
 // compares it with lifts of its own.
 #![tactic(auto)]
 
-ghost use Rattle.io.specs.Counts.{IsPrefixLen};
+ghost use Rattle.std.specs.Prelude.{◌≡◌, ◌≤◌, length, take};
 
 use lift_bytes::{entered_of, left_of};
 use marks::Cassette;
@@ -21,7 +21,8 @@ fn say(rt: &impl Print, what: &str, number: u64) -> io::Result<()> {
 
 // Fills the buffer from a file, and tells how many bytes came: none where it can't be read.
 fn fill(rt: &impl Files, path: &str, buffer: &mut [u8]) -> usize
-    ensures { IsPrefixLen result buffer.new }
+    ensures bound { result ≤ length buffer.new }
+    ensures prefix { result ≡ length (take result buffer.new) }
 {
     match fs::open(rt, path) {
         Ok(mut file) => read_full(&mut file, buffer),
@@ -31,7 +32,8 @@ fn fill(rt: &impl Files, path: &str, buffer: &mut [u8]) -> usize
 
 // Reads until the buffer is full, the file ends or a read fails, and tells how many bytes came.
 fn read_full(file: &mut impl io::Read, buffer: &mut [u8]) -> usize
-    ensures { IsPrefixLen result buffer.new }
+    ensures bound { result ≤ length buffer.new }
+    ensures prefix { result ≡ length (take result buffer.new) }
 {
     let mut done: usize = 0;
     while done < buffer.len() {
@@ -62,12 +64,8 @@ fn say_slots(
     slots: &[Cassette],
     carries: &[usize],
 ) -> io::Result<()> {
-    let mut i: usize = 0;
-    while i < slots.len() {
-        if i < carries.len() {
-            say_slot(rt, slots[i], carries[i], replayed.carries_of(slots[i]))?;
-        }
-        i += 1;
+    for (c, times) in slots.iter().zip(carries) {
+        say_slot(rt, *c, *times, replayed.carries_of(*c))?;
     }
     Ok(())
 }
@@ -85,16 +83,13 @@ fn say_lifts(rt: &impl Print, s: Store, list: &[u8]) -> io::Result<()> {
     let mut now = s;
     let mut cassettes: u64 = 0;
     let mut rows: u64 = 0;
-    let mut i: usize = 0;
-    while i < list.len() {
-        let b = list[i];
-        let lifted = now.lift(left_of(b), entered_of(b));
+    for b in list {
+        let lifted = now.lift(left_of(*b), entered_of(*b));
         let carried = lifted.carried;
         let row = carried.row;
         cassettes = wrapping_add_u64(cassettes, carried.cassette as u64);
         rows = wrapping_add_u64(rows, row.0 as u64);
         now = lifted.store;
-        i += 1;
     }
     say(rt, "told ", cassettes)?;
     say(rt, " ", rows)?;

@@ -17,12 +17,8 @@ fn say(rt: &impl Print, what: &str, number: u64) -> io::Result<()> {
 
 // The first n bytes, or all where there are fewer, and the end of the line.
 fn say_bytes(rt: &impl Print, bytes: &[u8], n: usize) -> io::Result<()> {
-    let mut i: usize = 0;
-    while i < n {
-        if i < bytes.len() {
-            say(rt, " ", bytes[i] as u64)?;
-        }
-        i += 1;
+    for b in bytes.iter().take(n) {
+        say(rt, " ", *b as u64)?;
     }
     println!(rt)
 }
@@ -30,10 +26,8 @@ fn say_bytes(rt: &impl Print, bytes: &[u8], n: usize) -> io::Result<()> {
 // The slots as far as row 1 of shaft 2.
 fn say_slots(rt: &impl Print, slots: &Slots) -> io::Result<()> {
     print!(rt; "  slots")?;
-    let mut i: usize = 0;
-    while i < 33 {
+    for i in 0..33 {
         say(rt, " ", slot_at(slots, i) as u64)?;
-        i += 1;
     }
     println!(rt)
 }
@@ -106,15 +100,9 @@ fn numbered(i: usize) -> Cassette {
 // m 16, h 16, full: cassettes 1 to 254 from shaft 0 upward, and two blanks.
 fn fullest() -> Store {
     let mut s = empty(16, 16);
-    let mut x: usize = 0;
-    while x < 16 {
-        s.heights[x] = 16;
-        x += 1;
-    }
-    let mut i: usize = 0;
-    while i < 256 {
+    s.heights = [16; 16];
+    for i in 0..256 {
         s.slots[i] = numbered(i);
-        i += 1;
     }
     s
 }

@@ -2,8 +2,7 @@
 // there is none.
 #![tactic(auto)]
 
-ghost use Rattle.std.specs.Prelude.{◌≡◌, ◌≤◌, length};
-ghost use Rattle.io.specs.Counts.{IsPrefixLen};
+ghost use Rattle.std.specs.Prelude.{◌≡◌, ◌≤◌, length, take};
 
 use image::Read;
 use lift_bytes::{entered_of, left_of};
@@ -19,7 +18,8 @@ use store::Store;
 // Fills the buffer from a file and tells how many of its bytes count: up to the end of the file or of the buffer, and none where a read
 // fails, also midway.
 fn fill(file: &mut impl io::Read, buffer: &mut [u8]) -> usize
-    ensures { IsPrefixLen result buffer.new }
+    ensures bound { result ≤ length buffer.new }
+    ensures prefix { result ≡ length (take result buffer.new) }
 {
     let mut done: usize = 0;
     while done < buffer.len() {

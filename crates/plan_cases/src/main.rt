@@ -18,34 +18,12 @@ fn say(rt: &impl Print, what: &str, number: u64) -> io::Result<()> {
 }
 
 fn same_slots(a: &Slots, b: &Slots) -> bool {
-    let mut i: usize = 0;
-    while i < 256 {
-        if a[i] != b[i] {
-            return false;
-        }
-        i += 1;
-    }
-    true
+    a == b
 }
 
 // Whether two stores are the same.
 fn same_store(s: Store, t: Store) -> bool {
-    if s.m != t.m {
-        return false;
-    }
-    let e = s.depths;
-    let f = t.depths;
-    if e != f {
-        return false;
-    }
-    let a = s.heights;
-    let b = t.heights;
-    if a != b {
-        return false;
-    }
-    let c = s.slots;
-    let d = t.slots;
-    same_slots(&c, &d)
+    s.m == t.m && s.depths == t.depths && s.heights == t.heights && same_slots(&s.slots, &t.slots)
 }
 
 // m shafts of depth h with no cassette.
@@ -84,10 +62,8 @@ const ORDERS: [Cassette; 48] = [
 fn dealt(k: usize) -> Store {
     let first = 8 * (k % 6);
     let mut s = empty(3, 4);
-    let mut i: usize = 0;
-    while i < 8 {
+    for i in 0..8 {
         s = with(s, (i + k % 6) % 3, ORDERS[first + i]);
-        i += 1;
     }
     s
 }
@@ -135,10 +111,8 @@ fn show(rt: &impl Print, what: &str, start: Store, goal: Store, list: &mut [u8])
 // m 16, h 16 with 255 cassettes, each number from 1 to 255 once: shaft by shaft, counted from a number on.
 fn nearly_full(from: usize) -> Store {
     let mut s = empty(16, 16);
-    let mut i: usize = 0;
-    while i < 255 {
+    for i in 0..255 {
         s = with(s, i / 16, ((i + from % 255) % 255 + 1) as u16);
-        i += 1;
     }
     s
 }
@@ -151,17 +125,14 @@ fn one_or_blank(one: bool) -> Cassette {
 // m 16, h 16 with n cassettes, shaft by shaft: cassette 1 at place `at` of them, and blanks.
 fn blanks_but_one(n: usize, at: usize) -> Store {
     let mut s = empty(16, 16);
-    let mut i: usize = 0;
-    while i < n {
+    for i in 0..n {
         s = with(s, i / 16, one_or_blank(i == at));
-        i += 1;
     }
     s
 }
 
 fn dealt_cases(rt: &impl Print, list: &mut [u8]) -> io::Result<()> {
-    let mut k: usize = 0;
-    while k < 6 {
+    for k in 0..6 {
         show(
             rt,
             "m 3, h 4, n 8, dealt another way",
@@ -169,7 +140,6 @@ fn dealt_cases(rt: &impl Print, list: &mut [u8]) -> io::Result<()> {
             dealt(k + 1),
             list,
         )?;
-        k += 1;
     }
     Ok(())
 }
