@@ -4,14 +4,14 @@ use borrow.Author.Tests.{eq-eqb, ne_eqb, ltb-true, lt-ltb}
 use mathlib.Core.Bool.{Bool, true, false, ◌||◌}
 use mathlib.Core.List.{List, ◌++◌, map}
 use mathlib.Core.Path.{◌≡◌, refl, sym, ap, ◌∙◌}
-use Prim.Native.Nat.{ℕ, ◌-◌, ◌*◌, ◌^◌, ◌≤◌, ◌<◌}
+use Prim.Native.Nat.{ℕ, ◌*◌, ◌^◌, ◌≤◌, ◌<◌}
 use borrow.Table.Elements.{map_app}
 use native.Mathlib.Decide.{ℕ_discrete}
 use native.Mathlib.Omega.{arith}
 use lib.Dec.{ltb}
 use lib.ListN.{length, length-map}
 use lib.Pow.{pow_pos, pow-lt}
-use Rattle.bits.specs.Fields.{bits, packed}
+use Rattle.bits.specs.Fields.{packed}
 use Rattle.bits.proofs.Widths.{length_packed, packed_append}
 use Rattle.marks.specs.Cassettes.{numbers, blank, is_blank}
 use Rattle.marks.proofs.Others.{blank_is, only_blank, no_other_blank}

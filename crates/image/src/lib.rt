@@ -1,5 +1,6 @@
 // Images of stores (document 01, "The image"; document 02, 7/13 and 8/13): the answers of reading and of writing one. The definitions that the contracts of `reading`
 // and `writing` cite are in specs/; proofs/RoundTrip.antt shows how the two undo each other.
+#![tactic(auto)]
 
 use store::{Fault, Store};
 

@@ -19,12 +19,12 @@ part_reachable-requires c = c.requires
 pub returns-then-not-part_reachable : goal.returns-then-not-part_reachable
 returns-then-not-part_reachable c =
     let l = c.loop-i in
-    fails λ e. c.part_reachable.ensures.not_so (not-true _ c.if-not-part_reachable.true) (e l.i c.loop-i-test.true)
+    fails λ e. c.part_reachable.ensures.not_so (c.if-not-part_reachable.true) (e l.i c.loop-i-test.true)
 
 pub loop-i-preserved : goal.loop-i-preserved
 loop-i-preserved c =
     let l = c.loop-i in
-    (omega (arith, c.loop-i-test.true), below_more _ _ l.invariant.1 (c.part_reachable.ensures.so (not-false _ c.if-not-part_reachable.false)))
+    (omega (arith, c.loop-i-test.true), below_more _ _ l.invariant.1 (c.part_reachable.ensures.so (c.if-not-part_reachable.false)))
 
 pub returns : goal.returns
 returns c =

@@ -23,14 +23,14 @@ part_of-b-requires c = (accepted_shaped _ c.requires.goal).shafts
 
 pub returns-in-Refused : goal.returns-in-Refused
 returns-in-Refused c =
-    fails (part_refused c.args.some c.args.start c.args.goal c.requires c.part_of-a.ensures c.part_of-b.ensures c.if-a-eq0.false c.compare-compared.ensures c.pair-1.given.1)
+    fails (part_refused c.args.some c.args.start c.args.goal c.requires c.part_of-a.ensures c.part_of-b.ensures c.if-a-eq0.false c.compare-compared.ensures c.in-Refused.is)
 
 pub rule_holds-requires : goal.rule_holds-requires
 rule_holds-requires c =
-    (comparable_by _ _ _ c.compare-compared.ensures c.enum_told-1.given.1, count_by _ _ _ c.compare-compared.ensures c.enum_told-1.given.1)
+    (comparable_by _ _ _ c.compare-compared.ensures c.in_default.is, count_by _ _ _ c.compare-compared.ensures c.in_default.is)
 
 pub returns : goal.returns
 returns c =
-    let p = comparable_by _ _ _ c.compare-compared.ensures c.enum_told-1.given.1 in
+    let p = comparable_by _ _ _ c.compare-compared.ensures c.in_default.is in
     let d = by_rule _ _ p c.rule_holds.ensures in
     subst₂ (λ (u v : Store). Decides c.rule_holds.result (Reachable u v)) c.part_of-a.ensures c.part_of-b.ensures d

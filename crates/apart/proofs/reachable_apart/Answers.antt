@@ -11,9 +11,9 @@ same_elsewhere-requires c = accepted_shaped _ c.requires.comparable.start
 
 pub returns-then-not-same_elsewhere : goal.returns-then-not-same_elsewhere
 returns-then-not-same_elsewhere c =
-    fails λ r. c.same_elsewhere.ensures.not_so (not-true _ c.if-not-same_elsewhere.true) ((apart_exactly _ _ _ c.requires.comparable c.requires.disjoint).0 r).elsewhere
+    fails λ r. c.same_elsewhere.ensures.not_so (c.if-not-same_elsewhere.true) ((apart_exactly _ _ _ c.requires.comparable c.requires.disjoint).0 r).elsewhere
 
 pub returns : goal.returns
 returns c =
     let e = apart_exactly _ _ _ c.requires.comparable c.requires.disjoint in
-    decides_as (λ r. e.1 (record { elsewhere = c.same_elsewhere.ensures.so (not-false _ c.if-not-same_elsewhere.false); each = r })) (λ r. (e.0 r).each) c.all_reachable.ensures
+    decides_as (λ r. e.1 (record { elsewhere = c.same_elsewhere.ensures.so (c.if-not-same_elsewhere.false); each = r })) (λ r. (e.0 r).each) c.all_reachable.ensures

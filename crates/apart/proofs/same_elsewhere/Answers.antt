@@ -21,12 +21,12 @@ in_or_same-requires c =
 pub returns-then-not-in_or_same : goal.returns-then-not-in_or_same
 returns-then-not-in_or_same c =
     let l = c.loop-x in
-    fails λ e. c.in_or_same.ensures.not_so (not-true _ c.if-not-in_or_same.true) (e l.x (omega (arith, c.loop-x-test.true, l.invariant.1)))
+    fails λ e. c.in_or_same.ensures.not_so (c.if-not-in_or_same.true) (e l.x (omega (arith, c.loop-x-test.true, l.invariant.1)))
 
 pub loop-x-preserved : goal.loop-x-preserved
 loop-x-preserved c =
     let l = c.loop-x in
-    (omega (arith, c.loop-x-test.true, l.invariant.1), l.invariant.1, below_more _ _ l.invariant.2 (c.in_or_same.ensures.so (not-false _ c.if-not-in_or_same.false)))
+    (omega (arith, c.loop-x-test.true, l.invariant.1), l.invariant.1, below_more _ _ l.invariant.2 (c.in_or_same.ensures.so (c.if-not-in_or_same.false)))
 
 pub returns : goal.returns
 returns c =

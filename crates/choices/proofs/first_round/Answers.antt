@@ -14,11 +14,11 @@ pub returns-in-At : goal.returns-in-At
 returns-in-At c =
     let a = c.args in
     round_found a.f a.tops a.goal.now a.done.now a.heights.now a.slots.now c.next-v.result _ c.first_left-to.ensures c.next-v.ensures
-    (some_found a.f a.heights.now a.slots.now a.done.now c.next-v.result _ c.find.ensures _ c.from-1.given.1)
+    (some_found a.f a.heights.now a.slots.now a.done.now c.next-v.result _ c.find.ensures _ c.in-At.is)
 
 pub returns : goal.returns
 returns c =
     let a = c.args in
     absurd
     (found_somewhere a.f a.tops a.goal.now a.done.now a.heights.now a.slots.now c.next-v.result c.requires.fits_2.1 c.first_left-to.result.0
-    c.first_left-to.ensures c.next-v.ensures _ c.find.ensures c.enum_told-1.given.1)
+    c.first_left-to.ensures c.next-v.ensures _ c.find.ensures c.in_default.is)

@@ -22,7 +22,7 @@ below c = ltb-true _ _ (sym c.before.usable.ensures ∙ not-false _ c.if1.false)
 pub returns-then-not-usable : goal.returns-then-not-usable
 returns-then-not-usable c =
     let a = c.args in
-    fails λ s. omega (arith, s.usable, ltb-false a.r.to.0 a.f.m (sym c.usable.ensures ∙ not-true _ c.if-not-usable.true))
+    fails λ s. omega (arith, s.usable, ltb-false a.r.to.0 a.f.m (sym c.usable.ensures ∙ c.if-not-usable.true))
 
 pub bounds-tops-i : goal.bounds-tops-i
 bounds-tops-i c = omega (arith, below «PLACE Else1», c.requires.fits.shafts)

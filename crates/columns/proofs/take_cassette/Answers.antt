@@ -24,16 +24,16 @@ returns-then-c-ne0 c = let a = c.args in cassette_kept a.w a.x a.k a.slots.now a
 pub returns-in-Added : goal.returns-in-Added
 returns-in-Added c =
     let a = c.args in
-    rw c.meant-v.ensures (cassette_goes a.w a.x a.k a.slots.now a.marks.now a.c (taken_as c Taken.Added c.enum_told-1.given.1))
+    rw c.meant-v.ensures (cassette_goes a.w a.x a.k a.slots.now a.marks.now a.c (taken_as c Taken.Added c.in-Added.is))
 
 pub returns-in-NoCassette : goal.returns-in-NoCassette
 returns-in-NoCassette c =
     let a = c.args in
     rw c.stopped.ensures
-    (cassette_stops a.w a.x a.k a.slots.now a.marks.now a.c c.if-c-ne0.false Taken.NoCassette (taken_as c _ c.enum_told-in-NoCassette-1.given.1) (λ z. omega arith))
+    (cassette_stops a.w a.x a.k a.slots.now a.marks.now a.c c.if-c-ne0.false Taken.NoCassette (taken_as c _ c.in-NoCassette.is) (λ z. omega arith))
 
 pub returns-in-Twice : goal.returns-in-Twice
 returns-in-Twice c =
     let a = c.args in
     rw c.stopped-in-Twice.ensures
-    (cassette_stops a.w a.x a.k a.slots.now a.marks.now a.c c.if-c-ne0.false Taken.Twice (taken_as c _ c.enum_told-in-Twice-1.given.1) (λ z. omega arith))
+    (cassette_stops a.w a.x a.k a.slots.now a.marks.now a.c c.if-c-ne0.false Taken.Twice (taken_as c _ c.in-Twice.is) (λ z. omega arith))

@@ -10,10 +10,10 @@ use borrow.Author.Rules.{rules}
 use Rattle.depths.proofs.list_space.Goals as goal
 
 -- the deepest shaft is no deeper than 16 rows
-four : (c : tie.After-deepest-of) → 4 * c.deepest-of.result ≤ 64
+four : (c : goal.After-deepest_of-most) → 4 * c.deepest_of-most.result ≤ 64
 four c =
-    let a = c.before.args in
-    omega (arith, c.deepest-of.ensures, greatest_le a.m (depth_by a.depths) most_rows c.before.requires.0)
+    let a = c.args in
+    omega (arith, c.deepest_of-most.ensures, greatest_le a.m (depth_by a.depths) most_rows c.requires.depths_fit)
 
 
 pub overflow_mul-result-2 : goal.overflow_mul-result-2

@@ -32,9 +32,8 @@ judge_entry-requires c = (well c, c.requires.heights_sized)
 pub returns-in-CannotBe : goal.returns-in-CannotBe
 unfolding lift_refusal
 returns-in-CannotBe c =
-    let u = c.u-1.given in
-    let n = sym (ap truth_number u.1) ∙ c.judge_entry.ensures in
-    only_truth (n ∙ sym (fault_lift _ _ (well «PLACE Else1») (λ z. untrue_one u.0.0 (n ∙ z))))
+    let n = sym (ap truth_number c.in-CannotBe.is) ∙ c.judge_entry.ensures in
+    only_truth (n ∙ sym (fault_lift _ _ (well «PLACE Else1») (λ z. untrue_one c.in-CannotBe.u (n ∙ z))))
 
 pub shows-requires : goal.shows-requires
 shows-requires c =
@@ -45,12 +44,12 @@ shows-requires c =
 -- and past theirs 13 and 14 don't
 free : (c : goal.In_default) → 0 ≡ given (is_lift c.args.e) (lift_refusal (came c) c.args.e.shaft.0 c.args.e.second.0)
 unfolding lift_refusal
-free c = sym (ap truth_number c.enum_told-1.given.1) ∙ c.judge_entry.ensures
+free c = sym (ap truth_number c.in_default.is) ∙ c.judge_entry.ensures
 
 pub returns-then-not-shows : goal.returns-then-not-shows
 returns-then-not-shows c =
-    only_truth (sym (fault_number_lem (came c) _ (well c) (sym (free «PLACE After-shows-arg»)) (eqb-false _ _ (sym c.shows.ensures ∙ not-true _ c.if-not-shows.true))))
+    only_truth (sym (fault_number_lem (came c) _ (well c) (sym (free «PLACE After-shows-arg»)) (eqb-false _ _ (sym c.shows.ensures ∙ c.if-not-shows.true))))
 
 pub returns : goal.returns
 returns c =
-    only_truth (sym (fault_none (came c) _ (well c) (sym (free «PLACE After-shows-arg»)) (eqb-true _ _ (sym c.shows.ensures ∙ not-false _ c.if-not-shows.false))))
+    only_truth (sym (fault_none (came c) _ (well c) (sym (free «PLACE After-shows-arg»)) (eqb-true _ _ (sym c.shows.ensures ∙ c.if-not-shows.false))))

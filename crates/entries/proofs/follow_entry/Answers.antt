@@ -18,12 +18,11 @@ came c = let a = c.before.before.before.args in held a.m a.depths a.heights.now 
 
 -- past the test the entry can be true
 free : (c : goal.In_default) → entry_fault (came «PLACE After-compare») c.args.e ≡ 0
-free c = sym c.compare-found.ensures.has ∙ ap truth_number c.enum_told-in_default-1.given.1
+free c = sym c.compare-found.ensures.has ∙ ap truth_number c.in_default.is
 
 pub returns-in-CannotBe : goal.returns-in-CannotBe
 returns-in-CannotBe c =
-    let g = c.enum_told-1.given in
-    entry_stays (came c) _ c.compare-found.ensures (λ z. untrue_one g.0.0 (sym (ap truth_number g.1) ∙ c.compare-found.ensures.has ∙ z))
+    entry_stays (came c) _ c.compare-found.ensures (λ z. untrue_one c.in-CannotBe.enum_told (sym (ap truth_number c.in-CannotBe.is) ∙ c.compare-found.ensures.has ∙ z))
 
 pub carry-requires : goal.carry-requires
 carry-requires c =

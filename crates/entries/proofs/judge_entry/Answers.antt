@@ -33,11 +33,11 @@ told c =
 
 pub untrue_of-requires : goal.untrue_of-requires
 untrue_of-requires c =
-    λ z. never_eleven _ c.args.e _ _ _ (formed _ c.args.e c.requires.e_value) c.if-e-ne0.false (sym c.judge.ensures.has ∙ ap judged_number c.r-1.given.1 ∙ z)
+    λ z. never_eleven _ c.args.e _ _ _ (formed _ c.args.e c.requires.e_value) c.if-e-ne0.false (sym c.judge.ensures.has ∙ ap judged_number c.in-Refused.is ∙ z)
 
 pub returns-in-Allowed : goal.returns-in-Allowed
-returns-in-Allowed c = sym (ap judged_number c.enum_told-1.given.1) ∙ told «PLACE After-judge»
+returns-in-Allowed c = sym (ap judged_number c.in-Allowed.is) ∙ told «PLACE After-judge»
 
 pub returns-in-Refused : goal.returns-in-Refused
 returns-in-Refused c =
-    c.untrue_of.ensures ∙ sym (ap judged_number c.r-1.given.1) ∙ told c
+    c.untrue_of.ensures ∙ sym (ap judged_number c.in-Refused.is) ∙ told c

@@ -5,4 +5,4 @@ use Rattle.lifts.specs.Numbers.{refusal_number}
 use Rattle.entries.proofs.untrue_of.Goals as goal
 
 pub returns-in-Shafts : goal.returns-in-Shafts
-returns-in-Shafts c = absurd (c.requires (ap refusal_number c.enum_told-1.given.1))
+returns-in-Shafts c = absurd (c.requires (ap refusal_number c.in-Shafts.is))

@@ -11,9 +11,9 @@ returns-then-c-ne0 c = let a = c.args in end_kept a.image.now a.c c.if-c-ne0.tru
 pub returns-then-not-padded : goal.returns-then-not-padded
 returns-then-not-padded c =
     let a = c.args in
-    rw c.stopped.ensures (not_padded a.image.now a.c c.if-c-ne0.false (sym c.padded.ensures ∙ not-true _ c.if-not-padded.true))
+    rw c.stopped.ensures (not_padded a.image.now a.c c.if-c-ne0.false (sym c.padded.ensures ∙ c.if-not-padded.true))
 
 pub returns : goal.returns
 returns c =
     let a = c.args in
-    all_read a.image.now a.c c.if-c-ne0.false (sym c.padded.ensures ∙ not-false _ c.if-not-padded.false)
+    all_read a.image.now a.c c.if-c-ne0.false (sym c.padded.ensures ∙ c.if-not-padded.false)

@@ -20,11 +20,11 @@ found c = c.codable.ensures ∙ ap (codable _) c.before.slot_at.ensures
 
 pub returns-then-not-codable : goal.returns-then-not-codable
 returns-then-not-codable c =
-    fails λ p. true_false (sym (p c.loop-i.i c.loop-i-test.true) ∙ sym (found «PLACE After-codable») ∙ not-true _ c.if-not-codable.true)
+    fails λ p. true_false (sym (p c.loop-i.i c.loop-i-test.true) ∙ sym (found «PLACE After-codable») ∙ c.if-not-codable.true)
 
 pub loop-i-preserved : goal.loop-i-preserved
 loop-i-preserved c =
-    (omega (arith, c.loop-i-test.true), below_more _ _ c.loop-i.invariant.1 (sym (found «PLACE After-codable») ∙ not-false _ c.if-not-codable.false))
+    (omega (arith, c.loop-i-test.true), below_more _ _ c.loop-i.invariant.1 (sym (found «PLACE After-codable») ∙ c.if-not-codable.false))
 
 pub returns : goal.returns
 returns c = holds λ i h. c.loop-i.invariant.1 i (omega (arith, c.loop-i-test.false))

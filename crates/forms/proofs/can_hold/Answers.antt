@@ -16,11 +16,11 @@ use Rattle.forms.proofs.can_hold.Goals as goal
 
 pub returns-then-not-depths_held : goal.returns-then-not-depths_held
 returns-then-not-depths_held c =
-    sym (says_not _ (holds_test _ _) (λ h. c.depths_held.ensures.not_so (not-true _ c.if-not-depths_held.true) h.equal))
+    sym (says_not _ (holds_test _ _) (λ h. c.depths_held.ensures.not_so (c.if-not-depths_held.true) h.equal))
 
 pub returns : goal.returns
 returns c =
     let a = c.args in
     let all = subst (λ (n : ℕ). Decides c.all_codable.result ((i : ℕ) → i < slot_count → codable n (get_or a.s.slots i 0) ≡ true)) c.cassette_width.ensures c.all_codable.ensures in
     decides_same _ (holds a.form a.s)
-    (decides_as (λ p. record { equal = c.depths_held.ensures.so (not-false _ c.if-not-depths_held.false); numbered = p }) (λ h. h.numbered) all) (holds_test a.form a.s)
+    (decides_as (λ p. record { equal = c.depths_held.ensures.so (c.if-not-depths_held.false); numbered = p }) (λ h. h.numbered) all) (holds_test a.form a.s)

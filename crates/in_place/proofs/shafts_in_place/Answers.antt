@@ -19,7 +19,7 @@ pub returns-then-not-shaft_in_place : goal.returns-then-not-shaft_in_place
 returns-then-not-shaft_in_place c =
     let a = c.args in
     sym (all_fails most_shafts (shaft_in_place a.m a.depths a.heights.now a.slots.now) c.loop-x.x c.loop-x-test.true
-    (sym c.shaft_in_place.ensures ∙ not-true _ c.if-not-shaft_in_place.true))
+    (sym c.shaft_in_place.ensures ∙ c.if-not-shaft_in_place.true))
 
 pub loop-x-smaller : goal.loop-x-smaller
 loop-x-smaller c = omega (arith, c.loop-x-test.true)
@@ -29,7 +29,7 @@ loop-x-preserved c =
     let a = c.args in (
       omega (arith, c.loop-x-test.true),
       rw add-one (all_more c.loop-x.x (shaft_in_place a.m a.depths a.heights.now a.slots.now) c.loop-x.invariant.1
-          (sym c.shaft_in_place.ensures ∙ not-false _ c.if-not-shaft_in_place.false)),
+          (sym c.shaft_in_place.ensures ∙ c.if-not-shaft_in_place.false)),
     )
 
 pub returns : goal.returns

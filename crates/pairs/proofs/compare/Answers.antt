@@ -26,27 +26,25 @@ goal-words c i = let f : Fits w64 (get_or c.check2.result.marks i 0) = search ru
 
 -- where neither store is refused: both are accepted, and their marks are those of their cassettes
 start-marked : (c : goal.In_default) → AcceptedMarks c.args.start c.check-first.result.marks
-start-marked c = accepted_none _ _ _ c.check-first.ensures c.enum_told-1.given.1
+start-marked c = accepted_none _ _ _ c.check-first.ensures c.in_default.is
 
 goal-marked : (c : goal.In_default-goal_verdict) → AcceptedMarks c.args.goal c.check-second.result.marks
-goal-marked c = accepted_none _ _ _ c.check-second.ensures c.enum_told-in_default-goal_verdict-1.given.1
+goal-marked c = accepted_none _ _ _ c.check-second.ensures c.in_default-goal_verdict.is
 
 pub returns-in-Refused : goal.returns-in-Refused
 returns-in-Refused c =
-    let v = c.start_verdict-1.given in
-    refused_as _ _ _ _ c.refused.ensures (refused_one v.0.0 _ _ _ c.check-first.ensures v.1)
+    refused_as _ _ _ _ c.refused.ensures (refused_one c.in-Refused.start_verdict _ _ _ c.check-first.ensures c.in-Refused.is)
 
 pub returns-in-Refused-goal_verdict : goal.returns-in-Refused-goal_verdict
 returns-in-Refused-goal_verdict c =
-    let v = c.goal_verdict-1.given in
     refused_as _ _ _ _ c.refused-in-Refused-goal_verdict.ensures
-    ((start-marked «PLACE After-enum_told»).0, refused_one v.0.0 _ _ _ c.check-second.ensures v.1)
+    ((start-marked «PLACE After-enum_told»).0, refused_one c.in-Refused.start_verdict _ _ _ c.check-second.ensures c.in-Refused.is)
 
 pub returns-then-not-same_frame : goal.returns-then-not-same_frame
 returns-then-not-same_frame c =
     let a = c.args in
     refused_as _ _ _ _ c.refused-then-not-same_frame.ensures
-    (((start-marked «PLACE After-enum_told»).0, (goal-marked c).0), frames_differ a.start a.goal (c.same_frame_lem!!.ensures.not_so (not-true _ c.if-not-same_frame.true)))
+    (((start-marked «PLACE After-enum_told»).0, (goal-marked c).0), frames_differ a.start a.goal (c.same_frame.ensures.not_so (c.if-not-same_frame.true)))
 
 pub blanks_of-blanks-requires : goal.blanks_of-blanks-requires
 blanks_of-blanks-requires c = (start-marked «PLACE After-enum_told»).0
@@ -60,9 +58,9 @@ returns-then-not-same_cassettes c =
     refused_as _ _ _ _ c.refused-then-not-same_cassettes.ensures (
       ((start-marked c).0, (goal-marked c).0),
       (
-        frames_agree a.start a.goal (c.same_frame_lem!!.ensures.so (not-false _ c.if-not-same_frame.false)),
+        frames_agree a.start a.goal (c.same_frame.ensures.so (c.if-not-same_frame.false)),
         cassettes_differ _ _ _ _ (start-marked c) (goal-marked c) c.blanks_of-blanks.ensures c.blanks_of-goal_blanks.ensures
-            (start-words «PLACE After-check») (goal-words «PLACE After-check2») (c.same_cassettes.ensures.not_so (not-true _ c.if-not-same_cassettes.true)),
+            (start-words «PLACE After-check») (goal-words «PLACE After-check2») (c.same_cassettes.ensures.not_so (c.if-not-same_cassettes.true)),
       ),
     )
 
@@ -78,5 +76,5 @@ overflow_add-n c =
 pub returns : goal.returns
 returns c =
     compared_as _ _
-    (cassettes_agree _ _ _ _ (start-marked «PLACE After-enum_told») (goal-marked c) c.blanks_of-blanks.ensures c.blanks_of-goal_blanks.ensures (c.same_frame_lem!!.ensures.so (not-false _ c.if-not-same_frame.false))
-    (c.same_cassettes.ensures.so (not-false _ c.if-not-same_cassettes.false))) (counted c)
+    (cassettes_agree _ _ _ _ (start-marked «PLACE After-enum_told») (goal-marked c) c.blanks_of-blanks.ensures c.blanks_of-goal_blanks.ensures (c.same_frame.ensures.so (c.if-not-same_frame.false))
+    (c.same_cassettes.ensures.so (c.if-not-same_cassettes.false))) (counted c)

@@ -19,7 +19,7 @@ returns-in-Refused c =
 
 pub count_carry-requires : goal.count_carry-requires
 count_carry-requires c =
-    can_count _ _ _ _ _ c.loop-count.invariant.1 c.loop-count-test.true c.left_of-from.ensures c.Entered-of!!.ensures c.try_lift-tried.ensures (ap judged_number c.enum_told-1.given.1) c.well-formed!!.1.1.1.1.1.0.0
+    can_count _ _ _ _ _ c.loop-count.invariant.1 c.loop-count-test.true c.left_of-from.ensures c.Entered-of!!.ensures c.try_lift-tried.ensures (ap judged_number c.in_default.is) c.well-formed!!.1.1.1.1.1.0.0
 
 pub overflow_add-count : goal.overflow_add-count
 overflow_add-count c =
@@ -30,7 +30,7 @@ loop-count-preserved c =
     let w = c.count_carry.ensures in
     (
       count_length w ∙ c.loop-count.invariant.0,
-      goes_lifted _ _ _ _ _ c.loop-count.invariant.1 c.loop-count-test.true c.left_of-from.ensures c.Entered-of!!.ensures c.try_lift-tried.ensures (ap judged_number c.enum_told-1.given.1) w,
+      goes_lifted _ _ _ _ _ c.loop-count.invariant.1 c.loop-count-test.true c.left_of-from.ensures c.Entered-of!!.ensures c.try_lift-tried.ensures (ap judged_number c.in_default.is) w,
     )
 
 pub returns : goal.returns

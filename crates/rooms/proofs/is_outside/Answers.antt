@@ -20,7 +20,7 @@ below c = ltb-true _ _ (sym c.before.usable.ensures ∙ not-false _ c.if1.false)
 
 
 pub returns-then-not-usable : goal.returns-then-not-usable
-returns-then-not-usable c = fails λ o. omega (arith, o.usable, ltb-false c.args.c.0 c.args.f.m (sym c.usable.ensures ∙ not-true _ c.if-not-usable.true))
+returns-then-not-usable c = fails λ o. omega (arith, o.usable, ltb-false c.args.c.0 c.args.f.m (sym c.usable.ensures ∙ c.if-not-usable.true))
 
 pub returns-then-c-a : goal.returns-then-c-a
 returns-then-c-a c = fails λ o. o.not_first c.if-c-a.true

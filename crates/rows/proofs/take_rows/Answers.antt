@@ -13,11 +13,6 @@ use Rattle.lifts.specs.Lifting.{shown}
 use Rattle.rows.proofs.Walked.{RowsSoFar, no_rows, row_taken, row_refused, rows_taken}
 use Rattle.rows.proofs.take_rows.Goals as goal
 
--- an answer of another arm is not `Added`
-not-added : (r : Taken) → (tag_of the_type r ≡ 1) ⊎ (tag_of the_type r ≡ 2) → r ≡ Taken.Added → ⊥
-not-added r k e = let z : tag_of the_type r ≡ 0 = ap (tag_of the_type) e in ⊎_elim (λ h. omega arith) (λ h. omega arith) k
-
-
 pub loop-k-init : goal.loop-k-init
 loop-k-init c = (omega arith, no_rows _ _ _)
 
@@ -25,8 +20,8 @@ pub returns-in_default : goal.returns-in_default
 unfolding shown
 returns-in_default c =
     row_refused c.loop-k.invariant.1 _ c.args.rows
-    (subst (λ (v : ℕ). TakenIs c.loop-k.marks v c.take-taken.new.0 c.take-taken.result) c.slot_at.ensures c.take-taken.ensures)
-    (not-added c.take-taken.result c.in_default.keys2) c.loop-k-test.true
+    (subst (λ (v : ℕ). TakenIs c.loop-k.marks v c.take-taken.new.words c.take-taken.result) c.slot_at.ensures c.take-taken.ensures)
+    c.in_default.not-Added c.loop-k-test.true
 
 pub loop-k-preserved : goal.loop-k-preserved
 unfolding shown
@@ -35,7 +30,7 @@ loop-k-preserved c =
       omega (arith, c.loop-k-test.true),
       rw add-one
           (row_taken c.loop-k.invariant.1
-          (subst₂ (λ (v : ℕ) (r : Taken). TakenIs c.loop-k.marks v c.take-taken.new.0 r) c.slot_at.ensures c.enum_told-1.given.1 c.take-taken.ensures)),
+          (subst₂ (λ (v : ℕ) (r : Taken). TakenIs c.loop-k.marks v c.take-taken.new.words r) c.slot_at.ensures c.in-Added.is c.take-taken.ensures)),
     )
 
 pub returns : goal.returns

@@ -30,10 +30,10 @@ same_rows-requires c =
     (omega (arith, c.loop-x-test.true, p.0), omega (arith, c.floor_rows.ensures, p.1 c.loop-x.x))
 
 pub returns-then-not-same_rows : goal.returns-then-not-same_rows
-returns-then-not-same_rows c = fails λ e. (tested «PLACE After-same_rows»).not_so (not-true _ c.if-not-same_rows.true) (e c.loop-x.x c.loop-x-test.true)
+returns-then-not-same_rows c = fails λ e. (tested «PLACE After-same_rows»).not_so (c.if-not-same_rows.true) (e c.loop-x.x c.loop-x-test.true)
 
 pub loop-x-preserved : goal.loop-x-preserved
-loop-x-preserved c = (refl, omega (arith, c.loop-x-test.true), below_more _ _ c.loop-x.invariant.2 ((tested «PLACE After-same_rows»).so (not-false _ c.if-not-same_rows.false)))
+loop-x-preserved c = (refl, omega (arith, c.loop-x-test.true), below_more _ _ c.loop-x.invariant.2 ((tested «PLACE After-same_rows»).so (c.if-not-same_rows.false)))
 
 pub returns : goal.returns
 returns c = holds λ y h. c.loop-x.invariant.2 y (omega (arith, c.loop-x-test.false))

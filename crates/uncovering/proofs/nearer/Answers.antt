@@ -6,13 +6,13 @@ use Rattle.uncovering.specs.Nearest.{nearer_of}
 use Rattle.uncovering.proofs.nearer.Goals as goal
 
 pub returns-in-After-b : goal.returns-in-After-b
-returns-in-After-b c = sym (ap₂ nearer_of c.enum_told-in-Buried-1.given.1 c.b-1.given.1)
+returns-in-After-b c = sym (ap₂ nearer_of c.in-Buried.is c.in-After-b.is)
 
 pub returns-in-Absent-b-2 : goal.returns-in-Absent-b-2
-returns-in-Absent-b-2 c = sym (ap₂ nearer_of c.a-1.given.1 c.enum_told-in-Absent-b-2-1.given.1)
+returns-in-Absent-b-2 c = sym (ap₂ nearer_of c.in-After.is c.in-Absent-b-2.is)
 
 pub returns-in-Buried-b-2 : goal.returns-in-Buried-b-2
-returns-in-Buried-b-2 c = sym (ap₂ nearer_of c.a-1.given.1 c.enum_told-in-Buried-b-2-1.given.1)
+returns-in-Buried-b-2 c = sym (ap₂ nearer_of c.in-After.is c.in-Buried-b-2.is)
 
 pub returns-in-After-b-2 : goal.returns-in-After-b-2
-returns-in-After-b-2 c = ap After c.fewer.ensures ∙ sym (ap₂ nearer_of c.a-1.given.1 c.b-in-After-1.given.1)
+returns-in-After-b-2 c = ap After c.fewer.ensures ∙ sym (ap₂ nearer_of c.in-After.is c.in-After-b-2.is)

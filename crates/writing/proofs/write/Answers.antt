@@ -42,10 +42,10 @@ pub returns-then-not-can_hold : goal.returns-then-not-can_hold
 returns-then-not-can_hold c =
     let a = c.args in
     refused_write a.form a.s _ c.refused-then-not-can_hold.ensures
-    (not_held a.form a.s a.out.now (passed «PLACE After-enum_told») (known c) (sym c.can_hold.ensures ∙ not-true _ c.if-not-can_hold.true)) (λ z. omega arith)
+    (not_held a.form a.s a.out.now (passed «PLACE After-enum_told») (known c) (sym c.can_hold.ensures ∙ c.if-not-can_hold.true)) (λ z. omega arith)
 
 holds-it : (c : goal.Else-not-can_hold) → let a = c.args in holds a.form a.s ≡ true
-holds-it c = sym c.can_hold.ensures ∙ not-false _ c.if-not-can_hold.false
+holds-it c = sym c.can_hold.ensures ∙ c.if-not-can_hold.false
 
 pub returns-then-out-length_in : goal.returns-then-out-length_in
 returns-then-out-length_in c =

@@ -1,10 +1,12 @@
 -- `check` meets its contract: 12, then the walk over the shafts.
 use borrow.Author.Rules.{rules}
 use borrow.Author.Tests.{not-true, not-false}
-use mathlib.Core.Bool.{true}
+use mathlib.Core.Bool.{Bool, true}
 use mathlib.Core.Path.{◌≡◌, sym, ap, ◌∙◌}
 use lib.ListN.{length}
 use Rattle.lifts.specs.Lifting.{most_shafts, slot_count}
+use Rattle.in_place.specs.InPlace.{arrays_in_place}
+use Rattle.store.specs.declared.Store.{Store}
 use Rattle.store.specs.Accept.{in_place}
 use Rattle.store.specs.Numbers.{verdict_number}
 use Rattle.store.proofs.Checks.{refused_is, accepted_is}
@@ -13,34 +15,27 @@ use Rattle.store.proofs.Verdicts.{out_of_place, by_shafts}
 use Rattle.store.proofs.Store.check.Goals as goal
 
 -- what the arrays of a store value hold
-tested : (c : goal.After-arrays_in_place) → in_place c.args.self ≡ c.arrays_in_place.result
-tested c =
-    let s = c.args.self in
-    let d : length s.depths ≡ most_shafts = search rules in
-    let a : length s.heights ≡ most_shafts = search rules in
-    let b : length s.slots ≡ slot_count = search rules in
-    by_arrays s d a b ∙ sym c.arrays_in_place.ensures
-
-placed : (c : goal.Else-not-arrays_in_place) → in_place c.args.self ≡ true
-placed c = tested «PLACE After-arrays_in_place» ∙ not-false _ c.if-not-arrays_in_place.false
+tested : {r : Bool} (s : Store) → length s.depths ≡ most_shafts → length s.heights ≡ most_shafts → length s.slots ≡ slot_count
+    → r ≡ arrays_in_place s.m s.depths s.heights s.slots → in_place s ≡ r
+tested s d a b e = by_arrays s d a b ∙ sym e
 
 pub returns-then-not-arrays_in_place : goal.returns-then-not-arrays_in_place
 returns-then-not-arrays_in_place c =
     refused_is _ _ _ _ c.refused.ensures
-    (out_of_place c.args.self (tested «PLACE After-arrays_in_place» ∙ not-true _ c.if-not-arrays_in_place.true))
+    (out_of_place c.args.self ((tested c.args.self (search rules) (search rules) (search rules) c.arrays_in_place.ensures) ∙ c.if-not-arrays_in_place.true))
 
 pub check_shafts-requires : goal.check_shafts-requires
 check_shafts-requires c =
     let s = c.args.self in
-    (((shafts_in_range s (placed c)).1, depths_fit s (placed c)), c.none-marks.ensures)
+    let p : in_place s ≡ true = (tested c.args.self (search rules) (search rules) (search rules) c.arrays_in_place.ensures) ∙ c.if-not-arrays_in_place.false in
+    record { m_le_most_shafts = ((shafts_in_range s p).1, depths_fit s p); marks_value = c.none-marks.ensures }
 
 pub returns-in-Refused : goal.returns-in-Refused
 returns-in-Refused c =
-    let g = c.type_inv.marks in
     refused_is _ _ _ _ c.refused-in-Refused.ensures
-    (by_shafts c.args.self (placed c) ∙ sym c.check_shafts.ensures.verdict.has ∙ ap verdict_number g.1)
+    (by_shafts c.args.self ((tested c.args.self (search rules) (search rules) (search rules) c.arrays_in_place.ensures) ∙ c.if-not-arrays_in_place.false) ∙ sym c.check_shafts.ensures.verdict.has ∙ ap verdict_number c.in-Refused.is)
 
 pub returns : goal.returns
 returns c =
-    let e = c.enum_told-1.given.1 in
-    accepted_is _ _ _ (by_shafts c.args.self (placed c) ∙ sym c.check_shafts.ensures.verdict.has ∙ ap verdict_number e) (c.check_shafts.ensures.marks e).marks
+    let e = c.in_default.is in
+    accepted_is _ _ _ (by_shafts c.args.self ((tested c.args.self (search rules) (search rules) (search rules) c.arrays_in_place.ensures) ∙ c.if-not-arrays_in_place.false) ∙ sym c.check_shafts.ensures.verdict.has ∙ ap verdict_number e) (c.check_shafts.ensures.marks e).marks

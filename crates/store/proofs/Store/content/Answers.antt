@@ -1,10 +1,11 @@
 -- `content` meets its contract: 0 where the store has no such slot, else what the slot shows.
 use borrow.Author.Tests.{not-true, not-false}
-use mathlib.Core.Bool.{true}
+use mathlib.Core.Bool.{Bool, true}
 use mathlib.Core.Path.{◌≡◌, sym, ◌∙◌}
-use Prim.Native.Nat.{◌≤◌, ◌<◌}
+use Prim.Native.Nat.{ℕ, ◌≤◌, ◌<◌}
 use native.Mathlib.Omega.{arith}
 use Rattle.lifts.specs.Lifting.{most_shafts, most_rows}
+use Rattle.store.specs.declared.Store.{Store}
 use Rattle.store.specs.Slots.{has_slot}
 use Rattle.depths.proofs.SlotThere.{slot_range}
 use Rattle.store.proofs.Lifting.{content_none, content_at}
@@ -12,24 +13,21 @@ use borrow.Author.Rules.{rules}
 use Rattle.store.proofs.Store.content.Goals as goal
 
 -- past the test the store has the slot
-there : (c : goal.Else-not-has_slot) → has_slot c.args.self c.args.x.0 c.args.y.0 ≡ true
-there c = sym c.has_slot.ensures ∙ not-false _ c.if-not-has_slot.false
-
-range : (c : goal.Else-not-has_slot) → (c.args.x.0 < most_shafts) × ((0 < c.args.y.0) × (c.args.y.0 ≤ most_rows))
-range c = slot_range c.args.self.m c.args.self.depths c.args.x.0 c.args.y.0 (there c)
+range : {r : Bool} (s : Store) (x y : ℕ) → r ≡ has_slot s x y → r ≡ true → (x < most_shafts) × ((0 < y) × (y ≤ most_rows))
+range s x y e h = slot_range s.m s.depths x y (sym e ∙ h)
 
 pub returns-then-not-has_slot : goal.returns-then-not-has_slot
 returns-then-not-has_slot c =
     let a = c.args in
-    content_none a.t1 a.x.0 a.y.0 (sym c.has_slot.ensures ∙ not-true _ c.if-not-has_slot.true)
+    content_none a.self a.x.0 a.y.0 (sym c.has_slot.ensures ∙ c.if-not-has_slot.true)
 
 pub overflow_sub-result : goal.overflow_sub-result
-overflow_sub-result c = omega (arith, range «PLACE Else1»)
+overflow_sub-result c = omega (arith, range c.args.self c.args.x.0 c.args.y.0 c.has_slot.ensures c.if-not-has_slot.false)
 
 pub bounds-self-i : goal.bounds-self-i
-bounds-self-i c = omega (arith, range «PLACE Else1»)
+bounds-self-i c = omega (arith, range c.args.self c.args.x.0 c.args.y.0 c.has_slot.ensures c.if-not-has_slot.false)
 
 pub returns : goal.returns
 returns c =
     let a = c.args in
-    content_at a.t1 a.x.0 a.y.0 (there «PLACE Else1»)
+    content_at a.self a.x.0 a.y.0 (sym c.has_slot.ensures ∙ c.if-not-has_slot.false)

@@ -7,13 +7,12 @@ use Rattle.store.proofs.Store.lift.Goals as goal
 
 pub returns-in-Refused : goal.returns-in-Refused
 returns-in-Refused c =
-    let g = c.verdict-1.given in
-    store_refused c.args.self _ _ g.0.0 _ (refused_one g.0.0 _ _ _ c.check-checked.ensures g.1) c.nothing.ensures
+    store_refused c.args.self _ _ c.in-Refused.f _ (refused_one c.in-Refused.f _ _ _ c.check-checked.ensures c.in-Refused.is) c.nothing.ensures
 
 pub try_lift-tried-requires : goal.try_lift-tried-requires
 try_lift-tried-requires c =
-    accepted_shaped c.args.self (accepted_none _ _ _ c.check-checked.ensures c.enum_told-1.given.1).0
+    accepted_shaped c.args.self (accepted_none _ _ _ c.check-checked.ensures c.in_default.is).0
 
 pub returns : goal.returns
 returns c =
-    lift_tried c.args.self _ _ _ c.try_lift-tried.result c.answer_of.result (accepted_none _ _ _ c.check-checked.ensures c.enum_told-1.given.1).0 c.try_lift-tried.ensures c.answer_of.ensures
+    lift_tried c.args.self _ _ _ c.try_lift-tried.result c.answer_of.result (accepted_none _ _ _ c.check-checked.ensures c.in_default.is).0 c.try_lift-tried.ensures c.answer_of.ensures

@@ -1,5 +1,6 @@
 -- `check_shafts` meets its contract. The invariant: the shafts passed were taken without a fault.
 use borrow.Author.Rules.{rules}
+use mathlib.Core.List.{List}
 use mathlib.Core.Path.{◌≡◌, refl, ap, subst}
 use Prim.Native.Nat.{ℕ, ◌-◌, ◌≤◌}
 use native.Mathlib.Numerals.{add-one}
@@ -16,17 +17,9 @@ use Rattle.store.specs.Slots.{held}
 use Rattle.store.proofs.Walked.{ShaftsSoFar, no_shafts, shaft_high, shaft_refused, shaft_taken, shafts_taken}
 use Rattle.store.proofs.accept.check_shafts.Goals as goal
 
--- after the rows of a shaft that is not too high were taken
-module _ (a : tie.After-take-rows invariant-loop decreases-loop) where
-  fits : height_in a.before.before.before.before.before.before.before.args.heights.now a.before.before.before.before.before.before.loop.x ≤ depth_by a.before.before.before.before.before.before.before.args.depths a.before.before.before.before.before.before.loop.x
-  fits = omega (arith, a.before.before.if1.false, a.before.before.before.depth-of.ensures, a.before.before.before.before.height_at.ensures)
-
-  rows_are : RowsAre a.before.before.before.before.before.before.loop.marks a.before.before.before.before.before.before.before.args.slots.now a.before.before.before.before.before.before.loop.x (height_in a.before.before.before.before.before.before.before.args.heights.now a.before.before.before.before.before.before.loop.x) a.take-rows.last.1.1.1.0 a.take-rows.result
-  rows_are = rw (← a.before.before.before.before.height_at.ensures) a.take-rows.ensures
-
-  refused : (f : Fault) → taken_number a.take-rows.result ≡ fault_number f → ShaftsAre (held a.before.before.before.before.before.before.before.args.m a.before.before.before.before.before.before.before.args.depths a.before.before.before.before.before.before.before.args.heights.now a.before.before.before.before.before.before.before.args.slots.now) a.take-rows.last.1.1.1.0 (Verdict.Refused f)
-  refused f e = shaft_refused a.before.before.before.before.before.before.loop.inv.2 f a.before.before.before.before.before.loop-test.taken fits rows_are e
-
+-- a shaft is not too high
+fits : {rows deep : ℕ} (heights depths : List ℕ) (x : ℕ) → rows ≡ height_in heights x → deep ≡ depth_by depths x → rows ≤ deep → height_in heights x ≤ depth_by depths x
+fits heights depths x h d e = omega (arith, h, d, e)
 
 pub loop-x-init : goal.loop-x-init
 loop-x-init c = (refl, omega arith, no_shafts _ c.requires.marks_value)
@@ -40,10 +33,12 @@ take_rows-requires c =
     (omega (arith, c.loop-x-test.true, c.requires.m_le_most_shafts.0), omega (arith, c.if-depth_of-rows.false, c.depth_of.ensures, c.requires.m_le_most_shafts.1 c.loop-x.x))
 
 pub returns-in-NoCassette : goal.returns-in-NoCassette
-returns-in-NoCassette c = refused «PLACE After-take_rows» _ (ap taken_number c.enum_told-in-NoCassette-1.given.1)
+returns-in-NoCassette c = 
+    shaft_refused c.loop-x.invariant.2 _ c.loop-x-test.true (fits c.args.heights.now c.args.depths c.loop-x.x c.height_at-rows.ensures c.depth_of.ensures c.if-depth_of-rows.false) (rw (← c.height_at-rows.ensures) c.take_rows.ensures) (ap taken_number c.in-NoCassette.is)
 
 pub returns-in-Twice : goal.returns-in-Twice
-returns-in-Twice c = refused «PLACE After-take_rows» _ (ap taken_number c.enum_told-in-Twice-1.given.1)
+returns-in-Twice c = 
+    shaft_refused c.loop-x.invariant.2 _ c.loop-x-test.true (fits c.args.heights.now c.args.depths c.loop-x.x c.height_at-rows.ensures c.depth_of.ensures c.if-depth_of-rows.false) (rw (← c.height_at-rows.ensures) c.take_rows.ensures) (ap taken_number c.in-Twice.is)
 
 pub loop-x-preserved : goal.loop-x-preserved
 loop-x-preserved c =
@@ -51,7 +46,7 @@ loop-x-preserved c =
       refl,
       omega (arith, c.loop-x-test.true),
       rw add-one
-          (shaft_taken c.loop-x.invariant.2 (fits c) (rows_are c) c.enum_told-1.given.1),
+          (shaft_taken c.loop-x.invariant.2 (fits c.args.heights.now c.args.depths c.loop-x.x c.height_at-rows.ensures c.depth_of.ensures c.if-depth_of-rows.false) (rw (← c.height_at-rows.ensures) c.take_rows.ensures) c.in-Added.is),
     )
 
 pub returns : goal.returns
