@@ -1,4 +1,6 @@
 // The rows of a store that agree with the goal from the bottom, the cassette wanted above the rows that are passed, and whether all of the goal is passed.
+#![tactic(auto)]
+
 ghost use Rattle.std.specs.Prelude.{◌≡◌, ◌≤◌, ◌<◌};
 ghost use Rattle.stacks.specs.Deciding.{Decides};
 ghost use Rattle.lifts.specs.Lifting.{height_in};

@@ -1,5 +1,5 @@
 -- What is ahead of a placement, and where its cassette stands after a lift.
-use Rattle.std.specs.Prelude.{Bool, true, false, List, ◌≡◌, ℕ, suc, ◌+◌, ◌-◌, ◌≤◌, ◌<◌}
+use Rattle.std.specs.Prelude.{Bool, true, false, List, ◌≡◌, ℕ, suc, ◌+◌, ◌≤◌, ◌<◌}
 use Rattle.stacks.specs.Run.{Usable}
 use Rattle.stacks.specs.Placing.{Spare}
 use Rattle.rooms.specs.declared.Frame.{Frame}

@@ -1,4 +1,6 @@
 // What is ahead of a placement, and the next lift of it.
+#![tactic(auto)]
+
 ghost use Rattle.std.specs.Prelude.{◌+◌, ◌<◌};
 ghost use Rattle.stacks.specs.Placing.{Next};
 ghost use Rattle.lifts.specs.Lifting.{height_in};

@@ -1,4 +1,6 @@
 // How many blanks stand in a store (document 02, 5/13: "n is the marks of the others plus the count of blanks").
+#![tactic(auto)]
+
 ghost use Rattle.std.specs.Prelude.{◌≡◌, ◌≤◌, ◌<◌};
 ghost use Rattle.stacks.specs.Count.{count};
 ghost use Rattle.marks.specs.Cassettes.{blank};

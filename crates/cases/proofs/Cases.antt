@@ -28,11 +28,7 @@ use Rattle.reach.proofs.RuleTests.{list_test, store_test, reachable_test}
 use Rattle.reach.proofs.Sets.{comparable}
 use Rattle.entries.specs.Entries.{entry_in, malformed, entry_fault, after_entry}
 use Rattle.logs.specs.Following.{Following, entries_of, follow_from, follow}
-use Rattle.sets.specs.Sets.{has, shafts_in}
-use Rattle.parts.specs.Parts.{tabulated, part_over, part}
-use Rattle.within.proofs.Groups.{part_reached}
-use Rattle.store.proofs.Acceptance.{accepted_shaped}
-use Rattle.cases.specs.Claims.{Claim, lift_gets, yes_by, unreachable, pair_gets, space_is, reading_gets, image_is, writing_gets, length_is, log_gets, part_is, unreachable_within, ClaimHolds, AllHold}
+use Rattle.cases.specs.Claims.{Claim, lift_gets, yes_by, unreachable, pair_gets, space_is, reading_gets, image_is, writing_gets, length_is, log_gets, ClaimHolds, AllHold}
 use Rattle.cases.specs.Table.{table}
 use Rattle.cases.specs.Tests.{read_alike, follow_alike, tested, all_tested}
 
@@ -75,16 +71,6 @@ claim_holds (image_is f bytes s) e =
 claim_holds (writing_gets f s room k) e = eqb-true (write_refusal f s room) k e
 claim_holds (length_is f s k) e = eqb-true (length_in f s) k e
 claim_holds (log_gets s log i k t) e = follow_alike_lem _ _ e
-claim_holds (part_is some s t) e = (store_test (part some s) t).so e
-claim_holds (unreachable_within opened s t) e =
-    let p = both_true (eqb (pair_fault s t) 0) _ e in
-    let q = both_true (eqb (pair_fault (part opened s) (part opened t)) 0) _ p.1 in
-    let f = eqb-true (pair_fault s t) 0 p.0 in
-    let c = comparable (part opened s) (part opened t) (eqb-true (pair_fault (part opened s) (part opened t)) 0 q.0) in (
-      f,
-      λ r. (reachable_test (part opened s) (part opened t) c).not_so (not-true (rule_test (part opened s) (part opened t)) q.1)
-          (part_reached opened (accepted_shaped s (comparable s t f).start) r),
-    )
 
 all_hold : (cs : List Claim) → all_tested cs ≡ true → AllHold cs
 unfolding all_tested
@@ -92,5 +78,5 @@ all_hold [] e = tt
 all_hold (c ∷ cs) e = let p = both_true (tested c) (all_tested cs) e in (claim_holds c p.0, all_hold cs p.1)
 
 pub cases : AllHold table
-unfolding all_tested rule_test pair_fault lift_number store_fault rows_fault cassette_fault is_blank shown placed_at refusal_by rows_up rows_down depth_by deepest sum greatest cassettes_below cassettes cassette_count count empty_count list_space floor two_shaft_reading lifted lift_refusal replay_from read_image next_field bits_of image_in coded cassette_width write_refusal holds bits packed bytes_of follow follow_from entries_of entry_in malformed entry_fault after_entry has shafts_in tabulated part_over
+unfolding all_tested rule_test pair_fault lift_number store_fault rows_fault cassette_fault is_blank shown placed_at refusal_by rows_up rows_down depth_by deepest sum greatest cassettes_below cassettes cassette_count count empty_count list_space floor two_shaft_reading lifted lift_refusal replay_from read_image next_field bits_of image_in coded cassette_width write_refusal holds bits packed bytes_of follow follow_from entries_of entry_in malformed entry_fault after_entry
 cases = all_hold table refl

@@ -9,8 +9,6 @@ use Rattle.image.specs.Image.{length_in, image_in}
 use Rattle.image.specs.Reading.{refused, read_image}
 use Rattle.image.specs.Writing.{write_refusal}
 use Rattle.logs.specs.Following.{follow}
-use Rattle.parts.specs.Parts.{part}
-use Rattle.within.specs.Within.{ReachableWithin}
 
 -- a list with zeros after it, k numbers long
 abbrev pub padded : ℕ → List ℕ → List ℕ
@@ -54,10 +52,6 @@ pub data Claim : Type 0 where
   length_is : ℕ → Store → ℕ → Claim
   -- following a log on a store gives an entry, a number and a store
   log_gets : Store → List ℕ → ℕ → ℕ → Store → Claim
-  -- the shafts of a set, as a store of their own
-  part_is : ℕ → Store → Store → Claim
-  -- the goal can't be reached within a set of open shafts, though these have the same cassettes
-  unreachable_within : ℕ → Store → Store → Claim
 
 abbrev pub ClaimHolds : Claim → Type 0
 ClaimHolds (lift_gets s a b k) = lift_number s a b ≡ k
@@ -70,8 +64,6 @@ ClaimHolds (image_is f bytes s) = (read_image bytes ≡ record { store = s; numb
 ClaimHolds (writing_gets f s room k) = write_refusal f s room ≡ k
 ClaimHolds (length_is f s k) = length_in f s ≡ k
 ClaimHolds (log_gets s log i k t) = follow s log ≡ record { reached = t; entry = i; number = k }
-ClaimHolds (part_is some s t) = part some s ≡ t
-ClaimHolds (unreachable_within opened s t) = (pair_fault s t ≡ 0) × (ReachableWithin opened s t → ⊥)
 
 -- every claim of a list holds
 abbrev pub AllHold : List Claim → Type 0

@@ -3,7 +3,7 @@
 use Rattle.std.specs.Prelude.{List, [], ◌∷◌, ℕ, replicate}
 use Rattle.marks.specs.Cassettes.{blank}
 use Rattle.store.specs.declared.Store.{Store}
-use Rattle.cases.specs.Claims.{Claim, lift_gets, yes_by, unreachable, pair_gets, space_is, reading_gets, image_is, writing_gets, length_is, log_gets, part_is, unreachable_within, uneven_of, store_of}
+use Rattle.cases.specs.Claims.{Claim, lift_gets, yes_by, unreachable, pair_gets, space_is, reading_gets, image_is, writing_gets, length_is, log_gets, uneven_of, store_of}
 
 -- "m 3, h 3, no cassette"
 abbrev pub bare : Store
@@ -228,10 +228,4 @@ table =
     -- in a log too 4,095 is the blank, and 255 is a cassette; 14 is by the shaft's own depth
     ∷ log_gets (store_of 2 ((1 ∷ blank ∷ []) ∷ [] ∷ [])) (0x00 ∷ 0x1F ∷ 0xFF ∷ 0x11 ∷ 0x00 ∷ 0xFF ∷ []) 1 20 (store_of 2 ((1 ∷ []) ∷ (blank ∷ []) ∷ []))
     ∷ log_gets two_uneven (0x00 ∷ 0x10 ∷ 0x02 ∷ []) 0 14 two_uneven
-    -- sets of shafts "as 16 bits, bit 0 for shaft 0" (document 02, 10/13): the open shafts alone, in their order
-    ∷ part_is 5 (store_of 2 ((1 ∷ 2 ∷ []) ∷ (3 ∷ []) ∷ (4 ∷ []) ∷ [])) (store_of 2 ((1 ∷ 2 ∷ []) ∷ (4 ∷ []) ∷ []))
-    ∷ part_is 6 (uneven_of (3 ∷ 2 ∷ 1 ∷ []) ((1 ∷ []) ∷ (2 ∷ []) ∷ [] ∷ [])) (uneven_of (2 ∷ 1 ∷ []) ((2 ∷ []) ∷ [] ∷ []))
-    -- "their number picks the reachability rule .. with e counted over them": two read the same or not, and three have a floor that all four have not
-    ∷ unreachable_within 3 (store_of 3 ((1 ∷ 2 ∷ []) ∷ (3 ∷ []) ∷ [] ∷ [])) (store_of 3 ((1 ∷ []) ∷ (2 ∷ 3 ∷ []) ∷ [] ∷ []))
-    ∷ unreachable_within 7 (store_of 4 ((1 ∷ 4 ∷ 5 ∷ 6 ∷ []) ∷ (2 ∷ 7 ∷ 8 ∷ []) ∷ (3 ∷ 9 ∷ []) ∷ [] ∷ [])) (store_of 4 ((2 ∷ 4 ∷ 5 ∷ 6 ∷ []) ∷ (1 ∷ 7 ∷ 8 ∷ []) ∷ (3 ∷ 9 ∷ []) ∷ [] ∷ []))
     ∷ []

@@ -9,8 +9,7 @@ use Rattle.image.specs.Image.{length_in, image_in}
 use Rattle.image.specs.Reading.{Reading, refused, read_image}
 use Rattle.image.specs.Writing.{write_refusal}
 use Rattle.logs.specs.Following.{Following, follow}
-use Rattle.parts.specs.Parts.{part}
-use Rattle.cases.specs.Claims.{Claim, lift_gets, yes_by, unreachable, pair_gets, space_is, reading_gets, image_is, writing_gets, length_is, log_gets, part_is, unreachable_within}
+use Rattle.cases.specs.Claims.{Claim, lift_gets, yes_by, unreachable, pair_gets, space_is, reading_gets, image_is, writing_gets, length_is, log_gets}
 
 abbrev pub read_alike : Reading → Reading → Bool
 read_alike o q = eqb o.number q.number && same_store o.store q.store
@@ -29,9 +28,6 @@ tested (image_is f bytes s) = read_alike (read_image bytes) (record { store = s;
 tested (writing_gets f s room k) = eqb (write_refusal f s room) k
 tested (length_is f s k) = eqb (length_in f s) k
 tested (log_gets s log i k t) = follow_alike (follow s log) (record { reached = t; entry = i; number = k })
-tested (part_is some s t) = same_store (part some s) t
-tested (unreachable_within opened s t) =
-    eqb (pair_fault s t) 0 && (eqb (pair_fault (part opened s) (part opened t)) 0 && not (rule_test (part opened s) (part opened t)))
 
 -- every claim of a list passes its test
 unfoldable pub all_tested : List Claim → Bool

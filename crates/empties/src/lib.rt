@@ -1,4 +1,6 @@
 // e, the count of empty slots of a store (document 02, 7/13), worked out in 16 bits (4/13), for every store value whatever.
+#![tactic(auto)]
+
 ghost use Rattle.std.specs.Prelude.{◌≡◌};
 ghost use Rattle.store.specs.Slots.{empty_count};
 

@@ -1,4 +1,6 @@
 // The plain search for a cassette that is not passed.
+#![tactic(auto)]
+
 ghost use Rattle.std.specs.Prelude.{◌≡◌, ◌+◌, ◌/◌, ◌%◌};
 ghost use Rattle.stacks.specs.Deciding.{Decides};
 ghost use Rattle.rooms.specs.Frames.{Fits};

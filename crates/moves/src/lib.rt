@@ -1,4 +1,6 @@
 // Lists of lifts written as bytes: one lift made in place and written, and a lift many times over.
+#![tactic(auto)]
+
 ghost use Rattle.std.specs.Prelude.{◌≡◌, ◌+◌, ◌≤◌, ◌<◌, length, replicate};
 ghost use Rattle.lifts.specs.Bytes.{lift_byte};
 ghost use Rattle.lifts.specs.Carried.{CanCarry};

@@ -1,4 +1,5 @@
 // Two stores together (document 01, "Which comes first"): "For two stores: the start, the goal, 8, 9".
+#![tactic(auto)]
 
 ghost use Rattle.std.specs.Prelude.{◌≡◌};
 ghost use Rattle.stacks.specs.Deciding.{Decides};

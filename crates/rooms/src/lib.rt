@@ -1,4 +1,6 @@
 // A store that is lent as its arrays with its frame apart: the shafts that lifts may use, and where there is room.
+#![tactic(auto)]
+
 ghost use Rattle.std.specs.Prelude.{◌≡◌, ◌+◌, ltb};
 ghost use Rattle.stacks.specs.Run.{Usable};
 ghost use Rattle.stacks.specs.Placing.{Outside};

@@ -1,4 +1,6 @@
 // The rules of document 01, "Which goals can be reached", as tests of two stores that can be compared.
+#![tactic(auto)]
+
 ghost use Rattle.std.specs.Prelude.{◌≡◌, ℕ, ◌+◌, ◌-◌, ◌≤◌, ◌<◌, get_or};
 ghost use Rattle.stacks.specs.Deciding.{Decides};
 ghost use Rattle.lifts.specs.Lifting.{most_shafts, most_rows};

@@ -1,8 +1,7 @@
 -- `agreeing_rows` meets its contract.
 use borrow.Author.Count.{below_none, below_more}
-use Prim.Native.Nat.{◌-◌, ◌≤◌}
 use native.Mathlib.Omega.{arith}
-use Rattle.agreeing.proofs.AgreeLaws.{SameBelow, agree_stopped, agree_all}
+use Rattle.agreeing.proofs.AgreeLaws.{agree_stopped, agree_all}
 use borrow.Author.Rules.{rules}
 use Rattle.agreeing.proofs.agreeing_rows.Goals as goal
 

@@ -1,9 +1,7 @@
 -- `finished` meets its contract.
 use borrow.Author.Count.{below_none, below_more}
-use Prim.Native.Nat.{ℕ, ◌-◌, ◌≤◌, ◌<◌}
 use native.Mathlib.Omega.{arith}
 use Rattle.stacks.proofs.Deciding.{holds, fails}
-use Rattle.lifts.specs.Lifting.{height_in}
 use borrow.Author.Rules.{rules}
 use Rattle.agreeing.proofs.finished.Goals as goal
 

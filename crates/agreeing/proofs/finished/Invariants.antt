@@ -1,10 +1,6 @@
 -- `finished` meets its contract.
-use borrow.Author.Count.{below_none, below_more}
 use Prim.Native.Nat.{ℕ, ◌-◌, ◌≤◌, ◌<◌}
-use native.Mathlib.Omega.{arith}
-use Rattle.stacks.proofs.Deciding.{holds, fails}
 use Rattle.lifts.specs.Lifting.{height_in}
-use borrow.Author.Rules.{rules}
 use Rattle.agreeing.proofs.finished.Given as goal
 
 abbrev pub invariant-loop-x : goal.invariant-loop-x

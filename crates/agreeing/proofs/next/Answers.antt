@@ -1,7 +1,6 @@
 -- `next` meets its contract.
 use mathlib.Core.Path.{refl}
 use Rattle.lifts.specs.Lifting.{shown}
-use borrow.Author.Rules.{rules}
 use Rattle.agreeing.proofs.next.Goals as goal
 
 pub returns : goal.returns

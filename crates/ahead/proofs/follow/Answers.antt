@@ -1,5 +1,4 @@
 -- `follow` meets its contract.
-use borrow.Author.Rules.{rules}
 use native.Mathlib.Omega.{arith}
 use mathlib.Core.Path.{refl}
 use Rattle.ahead.proofs.follow.Goals as goal

@@ -1,5 +1,4 @@
 -- `next_lift` meets its contract.
-use borrow.Author.Rules.{rules}
 use native.Mathlib.Omega.{arith}
 use Rattle.ahead.proofs.AheadLaws.{to_b, from_a, itself, from_b}
 use Rattle.ahead.proofs.next_lift.Goals as goal
@@ -14,4 +13,4 @@ pub returns-then-tight-2 : goal.returns-then-tight-2
 returns-then-tight-2 c = itself c.args.n c.tight-2.ensures (omega (arith, c.if-n-gt0.false)) c.if-tight-2.true c.aside-c.ensures
 
 pub returns : goal.returns
-returns c = from_b c.args.n c.tight-2.ensures (omega (arith, c.if-n-gt0.false)) c.requires.outside_nonzero.0.1 c.if-tight-2.false c.aside-c.ensures
+returns c = from_b c.args.n c.tight-2.ensures (omega (arith, c.if-n-gt0.false)) c.requires.outside_nonzero.1 c.if-tight-2.false c.aside-c.ensures

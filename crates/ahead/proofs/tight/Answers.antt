@@ -1,5 +1,4 @@
 -- `tight` meets its contract.
-use borrow.Author.Rules.{rules}
 use Rattle.ahead.proofs.AheadLaws.{not_tight, tight_by}
 use Rattle.ahead.proofs.tight.Goals as goal
 

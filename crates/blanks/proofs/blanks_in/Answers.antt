@@ -1,11 +1,8 @@
 -- `blanks_in` meets its contract. The invariant: n is the count of blanks in the rows passed.
-use borrow.Author.Rules.{rules}
 use mathlib.Core.Path.{◌≡◌, refl}
-use Prim.Native.Nat.{◌-◌, ◌≤◌}
 use native.Mathlib.Numerals.{add-one}
 use native.Mathlib.Omega.{arith}
 use Rattle.stacks.specs.Count.{count}
-use Rattle.marks.specs.Cassettes.{blank}
 use Rattle.rows.specs.Rows.{rows_up}
 use Rattle.blanks.proofs.Counting.{byte_most, row_more}
 use Rattle.blanks.proofs.blanks_in.Goals as goal
@@ -21,14 +18,13 @@ pub overflow_add-n : goal.overflow_add-n
 overflow_add-n c = omega (arith, byte_most c.is_blank.result, c.loop-k.invariant)
 
 pub loop-k-preserved : goal.loop-k-preserved
-loop-k-preserved c =
-    (
-      omega arith,
-      rw add-one (omega (arith, c.loop-k.invariant.1, row_more c.args.slots.now c.args.x c.loop-k.k c.slot_at.ensures c.is_blank.ensures)),
-      omega (arith, c.loop-k.invariant.2, byte_most c.is_blank.result),
-    )
+loop-k-preserved c = (
+  omega arith,
+  rw add-one (omega (arith, c.loop-k.invariant.1, row_more c.args.slots.now c.args.x c.loop-k.k c.slot_at.ensures c.is_blank.ensures)),
+  omega (arith, c.loop-k.invariant.2, byte_most c.is_blank.result),
+)
 
 pub returns : goal.returns
 returns c =
     let all : c.loop-k.k ≡ c.args.rows = omega arith in
-    (rw all at c.loop-k.invariant.1, omega (arith, c.loop-k.invariant.2))
+    record { blanks = rw all at c.loop-k.invariant.1; most = omega (arith, c.loop-k.invariant.2) }

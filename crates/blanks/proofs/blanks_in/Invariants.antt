@@ -1,13 +1,9 @@
 -- `blanks_in` meets its contract. The invariant: n is the count of blanks in the rows passed.
-use borrow.Author.Rules.{rules}
-use mathlib.Core.Path.{◌≡◌, refl}
+use mathlib.Core.Path.{◌≡◌}
 use Prim.Native.Nat.{◌-◌, ◌≤◌}
-use native.Mathlib.Numerals.{add-one}
-use native.Mathlib.Omega.{arith}
 use Rattle.stacks.specs.Count.{count}
 use Rattle.marks.specs.Cassettes.{blank}
 use Rattle.rows.specs.Rows.{rows_up}
-use Rattle.blanks.proofs.Counting.{byte_most, row_more}
 use Rattle.blanks.proofs.blanks_in.Given as goal
 
 abbrev pub invariant-loop-k : goal.invariant-loop-k

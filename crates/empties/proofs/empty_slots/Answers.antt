@@ -1,5 +1,4 @@
 -- `empty_slots` meets its contract: the slots less the cassettes, or 0 where there are no more slots than cassettes.
-use borrow.Author.Rules.{rules}
 use native.Mathlib.Omega.{arith}
 use Rattle.store.specs.Slots.{empty_count}
 use Rattle.store.proofs.Counted.{heights_counted}

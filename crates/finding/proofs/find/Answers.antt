@@ -1,8 +1,7 @@
 -- `find` meets its contract.
 use borrow.Author.Count.{below_none, below_more}
-use Prim.Native.Nat.{ℕ, ◌-◌, ◌≤◌, ◌<◌}
 use native.Mathlib.Omega.{arith}
-use Rattle.finding.proofs.FindLaws.{NotAt, not_at, nowhere}
+use Rattle.finding.proofs.FindLaws.{not_at, nowhere}
 use borrow.Author.Rules.{rules}
 use Rattle.finding.proofs.find.Goals as goal
 

@@ -1,9 +1,6 @@
 -- `find` meets its contract.
-use borrow.Author.Count.{below_none, below_more}
 use Prim.Native.Nat.{ℕ, ◌-◌, ◌≤◌, ◌<◌}
-use native.Mathlib.Omega.{arith}
-use Rattle.finding.proofs.FindLaws.{NotAt, not_at, nowhere}
-use borrow.Author.Rules.{rules}
+use Rattle.finding.proofs.FindLaws.{NotAt}
 use Rattle.finding.proofs.find.Given as goal
 
 abbrev pub invariant-loop-p : goal.invariant-loop-p

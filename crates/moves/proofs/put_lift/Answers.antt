@@ -1,5 +1,4 @@
 -- `put_lift` meets its contract: the lift carried, and its byte set at the end of the list.
-use borrow.Author.Rules.{rules}
 use Rattle.moves.proofs.Carrying.{put}
 use Rattle.moves.proofs.put_lift.Goals as goal
 

@@ -1,11 +1,10 @@
 -- `put_many` meets its contract. The invariant: after i turns the byte stands i times.
-use borrow.Author.Rules.{rules}
 use mathlib.Core.Path.{◌≡◌, refl, ap, ◌∙◌}
-use Prim.Native.Nat.{ℕ, ◌+◌, ◌≤◌, ◌-◌}
+use Prim.Native.Nat.{ℕ}
 use native.Mathlib.Omega.{arith}
 use lib.ListN.{replicate, replicate-append-replicate}
 use Rattle.moves.specs.Written.{written}
-use Rattle.moves.proofs.Wrote.{Wrote, wrote_nothing, wrote_more}
+use Rattle.moves.proofs.Wrote.{wrote_nothing, wrote_more}
 use Rattle.moves.proofs.put_many.Goals as goal
 
 pub loop-i-init : goal.loop-i-init

@@ -1,11 +1,7 @@
 -- `put_many` meets its contract. The invariant: after i turns the byte stands i times.
-use borrow.Author.Rules.{rules}
-use mathlib.Core.Path.{◌≡◌, refl, ap, ◌∙◌}
-use Prim.Native.Nat.{ℕ, ◌+◌, ◌≤◌, ◌-◌}
-use native.Mathlib.Omega.{arith}
-use lib.ListN.{replicate, replicate-append-replicate}
-use Rattle.moves.specs.Written.{written}
-use Rattle.moves.proofs.Wrote.{Wrote, wrote_nothing, wrote_more}
+use Prim.Native.Nat.{◌+◌, ◌≤◌, ◌-◌}
+use lib.ListN.{replicate}
+use Rattle.moves.proofs.Wrote.{Wrote}
 use Rattle.moves.proofs.put_many.Given as goal
 
 abbrev pub invariant-loop-i : goal.invariant-loop-i

@@ -1,5 +1,4 @@
 -- `put_shift` meets its contract: of shafts below 16 the packed byte is the lift's.
-use borrow.Author.Rules.{rules}
 use mathlib.Core.Path.{◌≡◌, ap, ◌∙◌}
 use Prim.Native.Nat.{ℕ}
 use native.Mathlib.Omega.{arith}

@@ -1,5 +1,4 @@
 -- `same_cassettes` meets its contract: the blanks, and then the marks.
-use borrow.Author.Rules.{rules}
 use Rattle.stacks.proofs.Deciding.{fails, decides_as}
 use Rattle.pairs.proofs.same_cassettes.Goals as goal
 

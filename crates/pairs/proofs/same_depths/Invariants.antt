@@ -1,15 +1,8 @@
 -- `same_depths` meets its contract. The invariant: the depths passed are the same.
-use borrow.Author.Count.{below_none, below_more}
-use borrow.Author.Rules.{rules}
-use mathlib.Core.List.{List}
-use mathlib.Core.Path.{◌≡◌, sym, ap, ◌∙◌}
+use mathlib.Core.Path.{◌≡◌}
 use Prim.Native.Nat.{ℕ, ◌-◌, ◌≤◌, ◌<◌}
-use native.Mathlib.Omega.{arith}
-use lib.ListN.{length}
-use Rattle.stacks.proofs.Deciding.{fails, holds}
 use Rattle.lifts.specs.Lifting.{most_shafts}
 use Rattle.depths.specs.Depths.{depth_by}
-use Rattle.depths.proofs.DepthLaws.{depths_same}
 use Rattle.pairs.proofs.same_depths.Given as goal
 
 abbrev pub invariant-loop-x : goal.invariant-loop-x

@@ -1,5 +1,4 @@
 -- `same_frame` meets its contract: the one test and the other are the two fields of `SameFrame`.
-use borrow.Author.Rules.{rules}
 use Rattle.stacks.proofs.Deciding.{fails, decides_as}
 use Rattle.pairs.proofs.same_frame.Goals as goal
 

@@ -1,12 +1,8 @@
 -- `outside_from` meets its contract.
-use borrow.Author.Rules.{rules}
-use native.Mathlib.Omega.{arith}
 use Prim.Native.Nat.{ℕ, ◌-◌, ◌≤◌, ◌<◌}
 use Rattle.stacks.specs.Placing.{Outside}
 use Rattle.lifts.specs.Lifting.{height_in}
 use Rattle.rooms.specs.Frames.{depth_in}
-use mathlib.Core.Path.{◌≡◌}
-use native.Mathlib.Decide.{dec_lt}
 use Rattle.rooms.proofs.outside_from.Given as goal
 
 abbrev pub invariant-loop-x : goal.invariant-loop-x

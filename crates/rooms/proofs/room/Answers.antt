@@ -1,5 +1,4 @@
 -- `room` meets its contract.
-use borrow.Author.Rules.{rules}
 use native.Mathlib.Omega.{arith}
 use Rattle.rooms.proofs.room.Goals as goal
 

@@ -1,7 +1,6 @@
 -- `read_at` meets its contract: below the height of shaft 0 the place is a row of shaft 0, from there on one of shaft 1, counted from the top.
 use native.Mathlib.Omega.{arith}
 use Rattle.rules.proofs.Places.{read_low, read_high}
-use borrow.Author.Rules.{rules}
 use Rattle.rules.proofs.read_at.Goals as goal
 
 pub bounds-s-p : goal.bounds-s-p
@@ -10,7 +9,7 @@ bounds-s-p c = omega (arith, c.requires.shaped.heights 0, c.requires.shaped.rows
 pub returns-then-p-low : goal.returns-then-p-low
 returns-then-p-low c =
     let a = c.args in
-    read_low a.t1 a.p c.if-p-low.true
+    read_low a.s a.p c.if-p-low.true
 
 pub overflow_add-place : goal.overflow_add-place
 overflow_add-place c = omega (arith, c.requires.shaped.heights 1, c.requires.shaped.rows 1, c.if-p-low.false, c.requires.n_value)
@@ -21,4 +20,4 @@ bounds-s-place c = omega (arith, c.requires.shaped.heights 1, c.requires.shaped.
 pub returns : goal.returns
 returns c =
     let a = c.args in
-    read_high a.t1 a.n a.p c.requires.n_value.0 c.requires.n_value.1 c.if-p-low.false
+    read_high a.s a.n a.p c.requires.n_value.0 c.requires.n_value.1 c.if-p-low.false

@@ -1,9 +1,9 @@
 -- `same_floors` meets its contract. The invariant: the floors of the shafts passed agree.
 use borrow.Author.Count.{below_none, below_more}
-use borrow.Author.Rules.{rules}
-use borrow.Author.Tests.{not-true, not-false}
+use mathlib.Core.Bool.{Bool}
+use mathlib.Core.List.{List}
 use mathlib.Core.Path.{◌≡◌, refl, subst}
-use Prim.Native.Nat.{ℕ, ◌-◌, ◌≤◌, ◌<◌}
+use Prim.Native.Nat.{ℕ, ◌-◌}
 use native.Mathlib.Omega.{arith}
 use Rattle.stacks.specs.Deciding.{Decides}
 use Rattle.stacks.proofs.Deciding.{holds, fails}
@@ -12,14 +12,8 @@ use Rattle.rows.specs.Rows.{rows_up}
 use Rattle.rules.proofs.same_floors.Goals as goal
 
 -- the rows tested are the floor
-tested : (c : tie.After-same-rows invariant-loop decreases-loop) → let a = c.before.before.before.before.args in let x = c.before.before.before.loop.x in
-    Decides c.same_rows.result (rows_up a.a.now x (depth_by a.depths x - a.e) ≡ rows_up a.b.now x (depth_by a.depths x - a.e))
-tested c =
-    let a = c.before.before.before.before.args in
-    let x = c.before.before.before.loop.x in
-    subst (λ (k : ℕ). Decides c.same_rows.result (rows_up a.a.now x k ≡ rows_up a.b.now x k))
-    c.before.floor-rows.ensures c.same_rows.ensures
-
+tested : (a b d : List ℕ) (x e : ℕ) {k : ℕ} {r : Bool} → k ≡ depth_by d x - e → Decides r (rows_up a x k ≡ rows_up b x k) → Decides r (rows_up a x (depth_by d x - e) ≡ rows_up b x (depth_by d x - e))
+tested a b d x e {k} {r} f g = subst (λ (j : ℕ). Decides r (rows_up a x j ≡ rows_up b x j)) f g
 
 pub loop-x-init : goal.loop-x-init
 loop-x-init c = (refl, omega arith, below_none _)
@@ -30,10 +24,10 @@ same_rows-requires c =
     (omega (arith, c.loop-x-test.true, p.0), omega (arith, c.floor_rows.ensures, p.1 c.loop-x.x))
 
 pub returns-then-not-same_rows : goal.returns-then-not-same_rows
-returns-then-not-same_rows c = fails λ e. (tested «PLACE After-same_rows»).not_so (c.if-not-same_rows.true) (e c.loop-x.x c.loop-x-test.true)
+returns-then-not-same_rows c = fails λ e. (tested _ _ _ _ _ c.floor_rows.ensures c.same_rows.ensures).not_so (c.if-not-same_rows.true) (e c.loop-x.x c.loop-x-test.true)
 
 pub loop-x-preserved : goal.loop-x-preserved
-loop-x-preserved c = (refl, omega (arith, c.loop-x-test.true), below_more _ _ c.loop-x.invariant.2 ((tested «PLACE After-same_rows»).so (c.if-not-same_rows.false)))
+loop-x-preserved c = (refl, omega (arith, c.loop-x-test.true), below_more _ _ c.loop-x.invariant.2 ((tested _ _ _ _ _ c.floor_rows.ensures c.same_rows.ensures).so (c.if-not-same_rows.false)))
 
 pub returns : goal.returns
 returns c = holds λ y h. c.loop-x.invariant.2 y (omega (arith, c.loop-x-test.false))

@@ -1,12 +1,6 @@
 -- `same_floors` meets its contract. The invariant: the floors of the shafts passed agree.
-use borrow.Author.Count.{below_none, below_more}
-use borrow.Author.Rules.{rules}
-use borrow.Author.Tests.{not-true, not-false}
-use mathlib.Core.Path.{◌≡◌, refl, subst}
+use mathlib.Core.Path.{◌≡◌}
 use Prim.Native.Nat.{ℕ, ◌-◌, ◌≤◌, ◌<◌}
-use native.Mathlib.Omega.{arith}
-use Rattle.stacks.specs.Deciding.{Decides}
-use Rattle.stacks.proofs.Deciding.{holds, fails}
 use Rattle.depths.specs.Depths.{depth_by}
 use Rattle.rows.specs.Rows.{rows_up}
 use Rattle.rules.proofs.same_floors.Given as goal

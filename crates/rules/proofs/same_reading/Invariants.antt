@@ -1,14 +1,8 @@
 -- `same_reading` meets its contract. The invariant: the places passed read the same.
-use borrow.Author.Count.{below_none, below_more}
-use borrow.Author.Rules.{rules}
-use mathlib.Core.List.{List}
-use mathlib.Core.Path.{◌≡◌, sym, ap, ◌∙◌}
+use mathlib.Core.Path.{◌≡◌}
 use Prim.Native.Nat.{ℕ, ◌-◌, ◌≤◌, ◌<◌}
-use native.Mathlib.Omega.{arith}
 use lib.ListN.{get_or}
 use Rattle.reach.specs.Rules.{two_shaft_reading}
-use Rattle.stacks.proofs.Deciding.{holds, fails}
-use Rattle.rules.proofs.Places.{same_readings}
 use Rattle.rules.proofs.same_reading.Given as goal
 
 abbrev pub invariant-loop-p : goal.invariant-loop-p

@@ -1,8 +1,6 @@
 -- `same_rows` meets its contract. The invariant: the rows passed show the same.
 use borrow.Author.Count.{below_more}
-use borrow.Author.Rules.{rules}
-use mathlib.Core.Path.{◌≡◌, sym, ◌∙◌}
-use Prim.Native.Nat.{ℕ, suc, ◌-◌, ◌≤◌, ◌<◌}
+use mathlib.Core.Path.{sym, ◌∙◌}
 use native.Mathlib.Omega.{arith}
 use Rattle.stacks.proofs.Deciding.{holds, fails}
 use Rattle.lifts.specs.Lifting.{shown}

@@ -1,12 +1,7 @@
 -- `same_rows` meets its contract. The invariant: the rows passed show the same.
-use borrow.Author.Count.{below_more}
-use borrow.Author.Rules.{rules}
-use mathlib.Core.Path.{◌≡◌, sym, ◌∙◌}
+use mathlib.Core.Path.{◌≡◌}
 use Prim.Native.Nat.{ℕ, suc, ◌-◌, ◌≤◌, ◌<◌}
-use native.Mathlib.Omega.{arith}
-use Rattle.stacks.proofs.Deciding.{holds, fails}
 use Rattle.lifts.specs.Lifting.{shown}
-use Rattle.rules.proofs.Places.{rows_so, rows_each}
 use Rattle.rules.proofs.same_rows.Given as goal
 
 abbrev pub invariant-loop-i : goal.invariant-loop-i
