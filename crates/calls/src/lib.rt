@@ -1,4 +1,6 @@
 // What the C calls share: an answer put together, a refusal that writes nothing, and images read.
+#![tactic(auto)]
+
 ghost use Rattle.std.specs.Prelude.{◌≡◌};
 ghost use Rattle.calls.specs.HandedBack.{LentIs};
 ghost use Rattle.calls.specs.Shared.{answer_of, RefusedCall, OneIs, BothAre};

@@ -1,5 +1,7 @@
 // Reading an image (document 01, "Which comes first"): field by field, in place, and the first fault met is given. The cursor keeps it, and
 // the parts after it change nothing.
+#![tactic(auto)]
+
 ghost use Rattle.std.specs.Prelude.{◌≡◌, ◌≤◌, ◌<◌};
 ghost use Rattle.lifts.specs.Lifting.{most_shafts, most_rows};
 ghost use Rattle.store.specs.Slots.{held};

@@ -1,6 +1,5 @@
 -- `read_both` meets its contract: the start's fault, or the goal's, or both stores.
 use Rattle.calls.proofs.Readings.{start_refused, goal_told_lem}
-use borrow.Author.Rules.{rules}
 use Rattle.calls.proofs.read_both.Goals as goal
 
 pub returns-then-one-ne0 : goal.returns-then-one-ne0

@@ -1,5 +1,4 @@
 -- `read_lent` meets its contract: the image's fault, 10, or the store.
-use borrow.Author.Rules.{rules}
 use native.Mathlib.Omega.{arith}
 use Rattle.calls.proofs.HandedBack.{lent_refused, lent_little, lent_enough}
 use Rattle.calls.proofs.read_lent.Goals as goal

@@ -1,5 +1,4 @@
 -- `read_one` meets its contract: the reading's store and its number. The image is bytes, so its store is accepted where it is.
-use borrow.Author.Rules.{rules}
 use mathlib.Core.Path.{◌∙◌}
 use native.Mathlib.Omega.{arith}
 use Rattle.calls.proofs.Readings.{one_read}

@@ -1,7 +1,6 @@
 -- `read` meets its contract: the state at the end of the reading, as an answer.
 use mathlib.Core.Path.{◌∙◌}
 use Rattle.reading.proofs.Endings.{fault_given, read_refused, read_accepted}
-use borrow.Author.Rules.{rules}
 use Rattle.reading.proofs.read.Goals as goal
 
 pub answer_of-answer-requires : goal.answer_of-answer-requires

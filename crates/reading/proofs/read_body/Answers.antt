@@ -1,6 +1,5 @@
 -- `read_body` meets its contract: the shafts, and then the end, from no marks on.
 use Rattle.reading.proofs.Endings.{body_ends}
-use borrow.Author.Rules.{rules}
 use Rattle.reading.proofs.read_body.Goals as goal
 
 pub returns : goal.returns
