@@ -1,5 +1,6 @@
 // Packed fields of bits (document 01, "The image": "Fields are packed most significant bit first, with no gaps"): the reader of the
 // caller's bytes.
+#![tactic(auto)]
 
 ghost use Rattle.std.specs.Prelude.{◌≡◌, ◌+◌, ◌-◌, ◌*◌, ◌/◌, ◌%◌, ◌^◌, ◌≤◌, ◌<◌, get_or, drop};
 ghost use Rattle.bits.specs.Fields.{bits_of, next_field};

@@ -1,4 +1,6 @@
 // One entry of the changer's log (document 02, 9/13): taken from the bits of the log, compared with a store, and where it is a lift made in place.
+#![tactic(auto)]
+
 ghost use Rattle.std.specs.Prelude.{false, ◌≡◌, ◌+◌, ◌*◌, ◌≤◌, ◌<◌, eqb, length, drop};
 ghost use Rattle.bits.specs.Fields.{field, bits_of};
 ghost use Rattle.lifts.specs.Lifting.{most_shafts, most_rows, height_in, shown};

@@ -1,5 +1,7 @@
 // The fields of an image (document 01, "Which comes first"): the next one, the head and the end. "Reading goes field by field, and the first fault met is given": the
 // cursor keeps it, and the parts after it change nothing.
+#![tactic(auto)]
+
 ghost use Rattle.std.specs.Prelude.{◌≡◌, ◌^◌, ◌≤◌, ◌<◌, drop};
 ghost use Rattle.bits.specs.Fields.{bits_of};
 ghost use Rattle.image.specs.Image.{form_width, form_in};

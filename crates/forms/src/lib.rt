@@ -1,5 +1,7 @@
 // The forms of images (document 02, 7/13 and 8/13): which of them has a depth for each shaft, how wide a cassette is and which value stands for it, which
 // stores each can hold, and how long an image is.
+#![tactic(auto)]
+
 ghost use Rattle.std.specs.Prelude.{◌≡◌, true, false, ℕ, ◌≤◌, ◌<◌, get_or};
 ghost use Rattle.stacks.specs.Deciding.{Decides};
 ghost use Rattle.lifts.specs.Lifting.{slot_count};

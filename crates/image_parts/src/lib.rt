@@ -1,4 +1,6 @@
 // The parts of an image written with a pen (document 01, "The image"; document 02, 7/13 and 8/13): its head, and its shafts in order.
+#![tactic(auto)]
+
 ghost use Rattle.std.specs.Prelude.{◌+◌, ◌-◌, ◌*◌, ◌≤◌, ◌<◌, length};
 ghost use Rattle.pens.specs.Pens.{no_bits, Pushes};
 ghost use Rattle.lifts.specs.Lifting.{most_shafts, most_rows};

@@ -1,5 +1,7 @@
 // One lift (document 000, Definition 3.2): "takes the top cassette of one shaft and sets it on top of another". Whether it is allowed,
 // and the lift made in place.
+#![tactic(auto)]
+
 ghost use Rattle.std.specs.Prelude.{◌≡◌, ◌<◌, length, get_or};
 ghost use Rattle.lifts.specs.Carried.{CanCarry, CarriedIs};
 ghost use Rattle.lifts.specs.Lifting.{most_shafts, slot_count, height_in, refusal_by};

@@ -1,5 +1,7 @@
 // Cassette numbers, which of them is the blank (request 8/13), and the set of marks of the others (document 01, "The store": "kept as a set of
 // marks"), changed in place.
+#![tactic(auto)]
+
 ghost use Rattle.std.specs.Prelude.{◌≡◌, ◌≤◌, ◌<◌, eqb, get_or};
 ghost use Rattle.std.specs.Int.Count.{ones};
 ghost use Rattle.stacks.specs.Deciding.{Decides};

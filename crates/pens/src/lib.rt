@@ -1,4 +1,6 @@
 // The pen: fields pushed one after the other, and stored as whole bytes in a lent slice.
+#![tactic(auto)]
+
 ghost use Rattle.std.specs.Prelude.{◌≡◌, ◌+◌, ◌*◌, ◌/◌, ◌%◌, ◌^◌, ◌≤◌, ◌<◌, length};
 ghost use Rattle.bits.specs.Fields.{bits};
 ghost use Rattle.pens.specs.Pens.{no_bits, Pushes, Pads};

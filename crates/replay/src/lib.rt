@@ -1,5 +1,7 @@
 // The replay of a list of lifts (document 01, "Which comes first"): run through, or stopped at the first lift that is refused;
 // and how often each cassette was carried (document 02, 2/13).
+#![tactic(auto)]
+
 ghost use Rattle.std.specs.Prelude.{◌≡◌, ◌+◌, ◌-◌, ◌*◌, ◌%◌, ◌^◌};
 ghost use Rattle.marks.specs.Cassettes.{given};
 ghost use Rattle.lifts.specs.Lifting.{height_in};

@@ -1,4 +1,6 @@
 // The cassettes of a shaft, taken from row 1 upward.
+#![tactic(auto)]
+
 ghost use Rattle.std.specs.Prelude.{◌≤◌, ◌<◌};
 ghost use Rattle.lifts.specs.Lifting.{most_shafts, most_rows};
 ghost use Rattle.rows.specs.Rows.{RowsAre};

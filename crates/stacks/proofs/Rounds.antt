@@ -8,7 +8,7 @@ use native.Mathlib.Omega.{arith}
 use lib.ListN.{length, take, take-append-drop, length-drop}
 use Rattle.stacks.specs.Run.{Stacks, Usable, Within, Reached}
 use Rattle.stacks.specs.Count.{sum, occurrences, total, empties, lowest}
-use Rattle.stacks.specs.Placing.{Onto, all, Halfway}
+use Rattle.stacks.specs.Placing.{Onto, Halfway}
 use Rattle.stacks.proofs.Bottoms.{onto_length}
 use Rattle.stacks.proofs.Sums.{sum_le, sum_le_outside, some_less, sum_differ_one}
 use Rattle.stacks.proofs.Counts.{same_total}

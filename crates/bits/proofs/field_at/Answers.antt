@@ -3,7 +3,6 @@ use mathlib.Core.Path.{◌≡◌, ap, ◌∙◌}
 use native.Mathlib.Omega.{arith}
 use lib.ListN.{drop}
 use lib.Pow.{pow_mono}
-use borrow.Author.Rules.{rules}
 use Rattle.bits.specs.Fields.{field, bits_of}
 use Rattle.bits.specs.declared.Field.TheVariants.{Value}
 use Rattle.bits.proofs.Cuts.{field_in_bytes}
@@ -13,7 +12,6 @@ use Rattle.bits.proofs.field_at.Goals as goal
 
 value : (c : goal.After-cut) → c.cut.result ≡ field (drop c.args.at (bits_of c.args.s.now)) c.args.w
 value c = let a = c.args in c.cut.ensures ∙ field_in_bytes a.s.now a.at a.w _ (λ j. (c.type_inv.s j).fits) c.requires.1 c.three_bytes.ensures
-
 
 pub returns-then-s-byte : goal.returns-then-s-byte
 returns-then-s-byte c = let a = c.args in field_missing a.s.now a.at a.w (omega arith) (omega arith)

@@ -1,5 +1,4 @@
 -- `field_there` meets its contract: the field is not missing.
-use borrow.Author.Rules.{rules}
 use mathlib.Core.Path.{◌≡◌, sym, ◌∙◌}
 use Prim.Native.Nat.{ℕ}
 use native.Mathlib.Omega.{arith}
@@ -10,8 +9,8 @@ use Rattle.entries.proofs.field_there.Goals as goal
 
 pub returns-in-Missing : goal.returns-in-Missing
 returns-in-Missing c =
-    let z : Value (field _ _) ≡ Missing = field_there _ _ _ c.requires.2 ∙ sym c.read_field.ensures ∙ c.type_inv.log.1 in
+    let z : Value (field _ _) ≡ Missing = field_there _ _ _ c.requires.2 ∙ sym c.read_field.ensures ∙ c.in-Missing.is in
     absurd (let y : ◌≡◌ {A = ℕ} 0 1 = cc in omega arith)
 
 pub returns-in-Value : goal.returns-in-Value
-returns-in-Value c = (there _ _ _ (sym c.read_field.ensures ∙ c.type_inv.log.1)).value
+returns-in-Value c = (there _ _ _ (sym c.read_field.ensures ∙ c.in-Value.is)).value

@@ -1,5 +1,4 @@
 -- `first_entry` meets its contract: the four fields, each in its type.
-use borrow.Author.Rules.{rules}
 use mathlib.Core.Bool.{Bool}
 use mathlib.Core.List.{List}
 use mathlib.Core.Path.{◌≡◌}
@@ -14,6 +13,14 @@ use Rattle.entries.proofs.first_entry.Goals as goal
 four-bits : (l : List Bool) {v : ℕ} → v ≡ field l 4 → v < 256
 four-bits l e = omega (arith, e, field_lt l 4)
 
+pub overflow_cast-result : goal.overflow_cast-result
+overflow_cast-result c = omega (arith, four-bits _ c.field_there.ensures)
+
+pub overflow_cast-result-2 : goal.overflow_cast-result-2
+overflow_cast-result-2 c = omega (arith, four-bits _ c.field_there-2.ensures)
+
+pub overflow_cast-result-3 : goal.overflow_cast-result-3
+overflow_cast-result-3 c = omega (arith, four-bits _ c.field_there-3.ensures)
 
 pub returns : goal.returns
 unfolding entry_in

@@ -1,5 +1,4 @@
 -- `untrue_of` meets its contract: 11 is ruled out.
-use borrow.Author.Rules.{rules}
 use mathlib.Core.Path.{ap}
 use Rattle.lifts.specs.Numbers.{refusal_number}
 use Rattle.entries.proofs.untrue_of.Goals as goal

@@ -1,6 +1,5 @@
 -- `check_form` meets its contract: a fault is kept; else 1 for a form above 2.
 use Rattle.fields.proofs.Cursors.{form_kept, form_refused, form_taken}
-use borrow.Author.Rules.{rules}
 use Rattle.fields.proofs.check_form.Goals as goal
 
 pub returns-then-c-ne0 : goal.returns-then-c-ne0

@@ -1,5 +1,4 @@
 -- `field_if` meets its contract: the next field, or the value given.
-use borrow.Author.Rules.{rules}
 use Rattle.fields.proofs.Cursors.{if_there, if_not}
 use Rattle.fields.proofs.field_if.Goals as goal
 

@@ -1,8 +1,6 @@
 -- `finished` meets its contract: a fault is kept; else 7 unless what is left is padding.
-use borrow.Author.Tests.{not-true, not-false}
 use mathlib.Core.Path.{sym, ◌∙◌}
 use Rattle.fields.proofs.Endings.{end_kept, not_padded, all_read}
-use borrow.Author.Rules.{rules}
 use Rattle.fields.proofs.finished.Goals as goal
 
 pub returns-then-c-ne0 : goal.returns-then-c-ne0

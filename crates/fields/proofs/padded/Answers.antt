@@ -1,8 +1,7 @@
 -- `padded` meets its contract: no bit left, a whole byte or more left, or the bits left as one field.
-use mathlib.Core.Path.{sym, ◌∙◌}
+use mathlib.Core.Path.{sym}
 use native.Mathlib.Omega.{arith}
 use Rattle.fields.proofs.Endings.{nothing_left, bytes_left, bits_left, not_missing}
-use borrow.Author.Rules.{rules}
 use Rattle.fields.proofs.padded.Goals as goal
 
 pub returns-then-image-at : goal.returns-then-image-at
@@ -15,7 +14,7 @@ pub returns-then-at-image : goal.returns-then-at-image
 returns-then-at-image c = let a = c.args in bytes_left a.image.now a.at (omega arith)
 
 pub returns-in-Missing : goal.returns-in-Missing
-returns-in-Missing c = let a = c.args in absurd (not_missing a.image.now a.at _ (omega arith) (sym c.read_field.ensures ∙ c.type_inv.image.1))
+returns-in-Missing c = let a = c.args in absurd (not_missing a.image.now a.at _ (omega arith) (sym c.in-Missing.ensures))
 
 pub returns-in-Value : goal.returns-in-Value
-returns-in-Value c = let a = c.args in bits_left a.image.now a.at _ (omega arith) _ (omega arith) (sym c.read_field.ensures ∙ c.type_inv.image.1)
+returns-in-Value c = let a = c.args in bits_left a.image.now a.at _ (omega arith) _ (omega arith) (sym c.in-Value.ensures)

@@ -1,6 +1,5 @@
 -- `read_head` meets its contract: two fields or three, one after the other.
 use Rattle.fields.proofs.Cursors.{head_named}
-use borrow.Author.Rules.{rules}
 use Rattle.fields.proofs.read_head.Goals as goal
 
 pub returns : goal.returns

@@ -1,13 +1,8 @@
 -- `all_codable` meets its contract. The invariant: the numbers passed have a value.
-use borrow.Author.Count.{below_none, below_more}
-use borrow.Author.Rules.{rules}
-use borrow.Author.Tests.{not-true, not-false}
 use mathlib.Core.Bool.{true}
-use mathlib.Core.Path.{◌≡◌, sym, ap, ◌∙◌}
+use mathlib.Core.Path.{◌≡◌}
 use Prim.Native.Nat.{ℕ, ◌-◌, ◌≤◌, ◌<◌}
-use native.Mathlib.Omega.{arith}
 use lib.ListN.{get_or}
-use Rattle.stacks.proofs.Deciding.{true_false, fails, holds}
 use Rattle.lifts.specs.Lifting.{slot_count}
 use Rattle.image.specs.Coding.{codable}
 use Rattle.forms.proofs.all_codable.Given as goal

@@ -1,5 +1,4 @@
 -- `blank_value` meets its contract: fewer than 16 bits hold a power of two.
-use borrow.Author.Rules.{rules}
 use mathlib.Core.Path.{ap}
 use Prim.Native.Nat.{ℕ, ◌-◌}
 use lib.Pow.{pow_pos}

@@ -1,6 +1,4 @@
 -- `can_hold` meets its contract: the depths where they must be equal, and then the numbers.
-use borrow.Author.Rules.{rules}
-use borrow.Author.Tests.{not-true, not-false}
 use mathlib.Core.Bool.{true}
 use mathlib.Core.Path.{◌≡◌, sym, subst}
 use Prim.Native.Nat.{ℕ, ◌<◌}
@@ -24,3 +22,6 @@ returns c =
     let all = subst (λ (n : ℕ). Decides c.all_codable.result ((i : ℕ) → i < slot_count → codable n (get_or a.s.slots i 0) ≡ true)) c.cassette_width.ensures c.all_codable.ensures in
     decides_same _ (holds a.form a.s)
     (decides_as (λ p. record { equal = c.depths_held.ensures.so (c.if-not-depths_held.false); numbered = p }) (λ h. h.numbered) all) (holds_test a.form a.s)
+
+pub all_codable-requires : goal.all_codable-requires
+all_codable-requires c = omega (arith, c.cassette_width.ensures, width_most c.args.form)

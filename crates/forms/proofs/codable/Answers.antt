@@ -1,5 +1,4 @@
 -- `codable` meets its contract by its two tests.
-use borrow.Author.Rules.{rules}
 use mathlib.Core.Path.{sym, ◌∙◌}
 use Rattle.image.specs.Coding.{codable}
 use Rattle.forms.proofs.codable.Goals as goal

@@ -1,5 +1,4 @@
 -- `coded` meets its contract: from the blank to the value that stands for it it is 2^w less 2^12, from any other number nothing.
-use borrow.Author.Rules.{rules}
 use mathlib.Core.Bool.{Bool, cond}
 use mathlib.Core.Path.{sym, ap, ◌∙◌}
 use native.Mathlib.Omega.{arith}
@@ -18,3 +17,9 @@ steps c =
 pub returns : goal.returns
 unfolding coded
 returns c = (steps c).is ∙ ap (λ (b : Bool). cond b (blank_value c.args.w) c.args.c) c.is_blank-one.ensures
+
+pub overflow_add-result : goal.overflow_add-result
+overflow_add-result c = omega (arith, (steps c).fits)
+
+pub overflow_sub-result : goal.overflow_sub-result
+overflow_sub-result c = (steps c).above

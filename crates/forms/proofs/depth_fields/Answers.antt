@@ -1,5 +1,4 @@
 -- `depth_fields` meets its contract: m where each shaft has its own depth, else one.
-use borrow.Author.Rules.{rules}
 use mathlib.Core.Path.{sym, ◌∙◌}
 use Rattle.forms.proofs.depth_fields.Goals as goal
 

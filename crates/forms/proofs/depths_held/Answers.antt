@@ -1,5 +1,4 @@
 -- `depths_held` meets its contract: nothing is asked of depths that are each shaft's own.
-use borrow.Author.Rules.{rules}
 use mathlib.Core.Path.{sym, ◌∙◌}
 use Rattle.stacks.proofs.Deciding.{true_false, holds, decides_as}
 use Rattle.forms.proofs.depths_held.Goals as goal

@@ -1,11 +1,8 @@
 -- `equal_depths` meets its contract. The invariant: the depths passed are that of the first shaft.
 use borrow.Author.Count.{below_none, below_more}
-use borrow.Author.Rules.{rules}
-use mathlib.Core.Path.{◌≡◌, sym, ◌∙◌}
-use Prim.Native.Nat.{ℕ, ◌-◌, ◌≤◌, ◌<◌}
+use mathlib.Core.Path.{sym, ◌∙◌}
 use native.Mathlib.Omega.{arith}
 use Rattle.stacks.proofs.Deciding.{fails, holds}
-use Rattle.depths.specs.Depths.{depth_by}
 use Rattle.forms.proofs.equal_depths.Goals as goal
 
 pub loop-x-init : goal.loop-x-init

@@ -1,10 +1,8 @@
 -- `meant` meets its contract: from the value that stands for the blank to the blank it is 2^12 less 2^w, from any other nothing.
-use borrow.Author.Rules.{rules}
 use borrow.Author.Tests.{eqb-true}
 use mathlib.Core.Bool.{cond}
 use mathlib.Core.Path.{ap, ◌∙◌}
 use Prim.Native.Nat.{ℕ}
-use native.Mathlib.Omega.{arith}
 use lib.Dec.{eqb}
 use Rattle.marks.specs.Cassettes.{blank}
 use Rattle.image.specs.Coding.{meant}

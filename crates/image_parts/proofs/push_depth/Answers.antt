@@ -1,5 +1,4 @@
 -- `push_depth` meets its contract: one field, or none.
-use borrow.Author.Rules.{rules}
 use Prim.Native.Nat.{◌-◌}
 use native.Mathlib.Omega.{arith}
 use Rattle.bits.proofs.Widths.{length_bits}
@@ -11,7 +10,7 @@ use Rattle.image_parts.proofs.push_depth.Goals as goal
 pub push-requires : goal.push-requires
 push-requires c =
     let r = rw c.if-there.true at c.requires.x_bound in
-    ((omega arith, c.requires.x_nonzero.2), omega (arith, length_bits frame_width (depth_by c.args.depths c.args.x - 1)))
+    record { w_bound = (omega arith, c.requires.x_nonzero.2); w_bound_2 = omega (arith, r, length_bits frame_width (depth_by c.args.depths c.args.x - 1)) }
 
 pub returns-then-there : goal.returns-then-there
 returns-then-there c =

@@ -1,11 +1,9 @@
 -- `write_rows` meets its contract: after k turns the first k rows are written.
-use borrow.Author.Rules.{rules}
 use mathlib.Core.Path.{◌≡◌, ap, ◌∙◌}
-use Prim.Native.Nat.{ℕ, suc, ◌-◌, ◌*◌, ◌≤◌}
+use Prim.Native.Nat.{ℕ, suc, ◌*◌, ◌≤◌}
 use native.Mathlib.Nat.{suc-mul, mul-le-mul, le_refl}
 use native.Mathlib.Omega.{arith}
 use lib.ListN.{length}
-use Rattle.pens.specs.Pens.{Pushes}
 use Rattle.rows.specs.Rows.{rows_up}
 use Rattle.image.specs.Coding.{coded, cassette_bits}
 use Rattle.image.proofs.Coding.{length_cassettes}
@@ -19,7 +17,10 @@ push-q-requires c =
     let a = c.args in
     let n : length (cassette_bits a.w (rows_up a.slots.now a.x k.k)) ≡ k.k * a.w = length_cassettes a.w (rows_up a.slots.now a.x k.k) ∙ ap (λ (i : ℕ). i * a.w) (rows_length a.slots.now a.x k.k) in
     let all : suc k.k * a.w ≤ a.rows * a.w = mul-le-mul c.loop-k-test.true (le_refl a.w) in
-    ((omega (arith, c.requires.w_le_wide_width.0), k.invariant.1.full), omega (arith, c.requires.w_le_wide_width.1, suc-mul k.k a.w, k.invariant.1.count, k.invariant.1.same_length))
+    record {
+      w_bound = (omega (arith, c.requires.w_le_wide_width.0), k.invariant.1.full);
+      w_bound_2 = omega (arith, c.requires.w_le_wide_width.1, suc-mul k.k a.w, k.invariant.1.count, k.invariant.1.same_length);
+    }
 
 pub loop-k-preserved : goal.loop-k-preserved
 loop-k-preserved c =
@@ -29,3 +30,6 @@ loop-k-preserved c =
 
 pub returns : goal.returns
 returns c = let e : c.loop-k.k ≡ c.args.rows = omega arith in rw e at c.loop-k.invariant.1
+
+pub loop-k-init : goal.loop-k-init
+loop-k-init c = let a = c.args in (omega arith, no_rows a.w a.slots.now a.x a.out.now a.p c.requires.x_lt_most_shafts.2)

@@ -1,16 +1,8 @@
 -- `write_rows` meets its contract: after k turns the first k rows are written.
-use borrow.Author.Rules.{rules}
-use mathlib.Core.Path.{◌≡◌, ap, ◌∙◌}
-use Prim.Native.Nat.{ℕ, suc, ◌-◌, ◌*◌, ◌≤◌}
-use native.Mathlib.Nat.{suc-mul, mul-le-mul, le_refl}
-use native.Mathlib.Omega.{arith}
-use lib.ListN.{length}
+use Prim.Native.Nat.{◌-◌, ◌≤◌}
 use Rattle.pens.specs.Pens.{Pushes}
 use Rattle.rows.specs.Rows.{rows_up}
-use Rattle.image.specs.Coding.{coded, cassette_bits}
-use Rattle.image.proofs.Coding.{length_cassettes}
-use Rattle.rows.proofs.Upward.{rows_length}
-use Rattle.image_parts.proofs.PartLaws.{no_rows, row_more}
+use Rattle.image.specs.Coding.{cassette_bits}
 use Rattle.image_parts.proofs.write_rows.Given as goal
 
 abbrev pub invariant-loop-k : goal.invariant-loop-k

@@ -1,12 +1,7 @@
 -- `write_shafts` meets its contract: after x turns the shafts below x are written.
-use borrow.Author.Rules.{rules}
-use mathlib.Core.Path.{◌≡◌}
 use Prim.Native.Nat.{◌-◌, ◌≤◌}
-use native.Mathlib.Omega.{arith}
 use Rattle.pens.specs.Pens.{Pushes}
 use Rattle.image.specs.Image.{columns_bits}
-use Rattle.image.proofs.Lengths.{shafts_within}
-use Rattle.image_parts.proofs.PartLaws.{no_shafts, shaft_more}
 use Rattle.image_parts.proofs.write_shafts.Given as goal
 
 abbrev pub invariant-loop-x : goal.invariant-loop-x

@@ -1,5 +1,4 @@
 -- `carry` meets its contract: the top slot of the one shaft is emptied and the slot above the top of the other is filled.
-use borrow.Author.Rules.{rules}
 use mathlib.Core.Path.{refl}
 use Rattle.lifts.proofs.Moving.{carried}
 use Rattle.lifts.proofs.carry.Goals as goal

@@ -1,5 +1,4 @@
 -- `height_of` meets its contract: past the sixteenth shaft a list of sixteen heights has the default, 0.
-use borrow.Author.Rules.{rules}
 use mathlib.Core.Path.{sym}
 use native.Mathlib.Omega.{arith}
 use lib.ListN.{get_or-eq_default}

@@ -6,9 +6,8 @@ use Rattle.logs.proofs.follow.Goals as goal
 
 pub returns-in-Refused : goal.returns-in-Refused
 returns-in-Refused c =
-    let g = c.type_inv.log in
-    followed_refused _ _ g.0.0 (refused_one g.0.0 _ _ _ c.check-checked.ensures g.1)
+    let f = c.in-Refused.f in
+    followed_refused _ _ f (refused_one f _ _ _ c.check-checked.ensures c.in-Refused.is)
 
 pub trace-traced-requires : goal.trace-traced-requires
-trace-traced-requires c =
-    (accepted_none _ _ _ c.check-checked.ensures c.type_inv.log.1).0
+trace-traced-requires c = (accepted_none _ _ _ c.check-checked.ensures c.in_default.is).0

@@ -14,7 +14,7 @@ use Rattle.logs.proofs.Tracing.{Goes, goes_start, goes_through, goes_stopped, go
 use Rattle.logs.proofs.trace_entries.Given as goal
 
 abbrev pub invariant-loop-entry : goal.invariant-loop-entry
-invariant-loop-entry l =    (l.count ≡ length l.log / 3) × Goes (held l.m l.depths l.initial.heights l.initial.slots) l.log (held l.m l.depths l.heights l.slots) l.entry
+invariant-loop-entry l = (l.count ≡ length l.log / 3) × Goes (held l.m l.depths l.initial.heights l.initial.slots) l.log (held l.m l.depths l.heights l.slots) l.entry
 
 abbrev pub decreases-loop-entry : goal.decreases-loop-entry
 decreases-loop-entry l = l.count - l.entry

@@ -1,5 +1,4 @@
 -- `is_blank` meets its contract by the definition.
-use borrow.Author.Rules.{rules}
 use mathlib.Core.Path.{ap}
 use lib.Dec.{eqb}
 use Rattle.marks.specs.Cassettes.{is_blank}

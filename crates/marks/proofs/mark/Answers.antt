@@ -1,5 +1,4 @@
 -- `mark` meets its contract: the bit that is set is 2 to the remainder by 64, and for a blank none.
-use borrow.Author.Rules.{rules}
 use mathlib.Core.Bool.{Bool, true, false, not, cond}
 use mathlib.Core.List.{List}
 use mathlib.Core.Path.{◌≡◌, refl, ap, ◌∙◌}
@@ -24,7 +23,6 @@ bit-set w c true =
 bit-set w c false =
     let b : 1 * 2 ^ (c % 64) % 2 ^ 64 ≡ 2 ^ (c % 64) = ap (λ (n : ℕ). n % 2 ^ 64) (one-mul _) ∙ mod-eq_of_lt (bit_lt (c % 64) (omega arith)) in
     rw b refl
-
 
 pub overflow_cast-k : goal.overflow_cast-k
 overflow_cast-k c = let h : bit_and c.args.c 63 < 64 = mask_lt c.args.c 6 in omega arith

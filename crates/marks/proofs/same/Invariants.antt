@@ -1,13 +1,7 @@
 -- `same` meets its contract: the words are the same exactly if each of them is.
-use borrow.Author.Rules.{rules}
-use mathlib.Core.List.{List}
-use mathlib.Core.Path.{◌≡◌, sym, ap, ◌∙◌}
+use mathlib.Core.Path.{◌≡◌}
 use Prim.Native.Nat.{ℕ, ◌-◌, ◌≤◌, ◌<◌}
-use native.Mathlib.Decide.{ℕ_discrete}
-use native.Mathlib.Omega.{arith}
-use lib.ListN.{length, get_or}
-use lib.Seq.{ext_get_or}
-use Rattle.stacks.proofs.Deciding.{holds, fails}
+use lib.ListN.{get_or}
 use Rattle.marks.specs.Marking.{mark_words}
 use Rattle.marks.proofs.same.Given as goal
 

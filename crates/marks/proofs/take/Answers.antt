@@ -1,6 +1,4 @@
 -- `take` meets its contract: 4, then 5, or the cassette taken.
-use borrow.Author.Rules.{rules}
-use borrow.Author.Tests.{not-true, not-false}
 use mathlib.Core.Bool.{Bool, true}
 use mathlib.Core.Path.{◌≡◌, sym, ◌∙◌, subst}
 use mathlib.Core.List.{List}
@@ -8,13 +6,12 @@ use Prim.Native.Nat.{ℕ}
 use Rattle.marks.specs.declared.Taken.TheVariants.{Added}
 use Rattle.marks.specs.Taking.{TakenIs}
 use Rattle.marks.specs.Cassettes.{is_cassette}
-use Rattle.marks.proofs.Takes.{cassette_range, none_is, twice_is, added_is}
+use Rattle.marks.proofs.Takes.{none_is, twice_is, added_is}
 use Rattle.marks.proofs.take.Goals as goal
 
 -- past the first test the number is a cassette's
 one : {r : Bool} (n : ℕ) → r ≡ is_cassette n → r ≡ true → is_cassette n ≡ true
 one n e t = sym e ∙ t
-
 
 pub returns-then-not-is_cassette : goal.returns-then-not-is_cassette
 returns-then-not-is_cassette c = none_is c.args.words.now c.args.c (sym c.is_cassette.ensures ∙ c.if-not-is_cassette.true)

@@ -8,13 +8,11 @@ use Rattle.bits.specs.Fields.{bits}
 use Rattle.pens.specs.Pens.{Pushes, Pads}
 use Rattle.pens.proofs.Pushed.{pushes_none}
 use Rattle.bits.proofs.Widths.{length_bits}
-use borrow.Author.Rules.{rules}
 use Rattle.pens.proofs.pad.Goals as goal
 
 no-padding : (out : List ℕ) (p : Pen) → p.full ≡ 0 → Pads out out p p
 unfolding bits
 no-padding out p e = record { zeros = 0; few = omega arith; pushes = pushes_none out p (omega arith); whole = e }
-
 
 some-padding : (out next : List ℕ) (p q : Pen) → (p.full ≡ 0 → ⊥) → p.full < 8 → Pushes (bits (8 - p.full) 0) out next p q → Pads out next p q
 some-padding out next p q n h x = record {
@@ -23,7 +21,6 @@ some-padding out next p q n h x = record {
   pushes = x;
   whole = let k = length_bits (8 - p.full) 0 in omega (arith, x.count, x.full);
 }
-
 
 pub returns-then-p-eq0 : goal.returns-then-p-eq0
 returns-then-p-eq0 c = let a = c.args in no-padding a.out.now a.p c.if-p-eq0.true

@@ -1,13 +1,9 @@
 -- `take_rows` meets its contract. The invariant: the rows passed were taken without a fault.
-use borrow.Author.Rules.{rules}
-use mathlib.Core.Logic.{◌⊎◌, ⊎_elim}
-use mathlib.Core.Path.{◌≡◌, ap, subst, subst₂}
-use Prim.Native.Nat.{ℕ, ◌-◌, ◌≤◌}
+use mathlib.Core.Path.{◌≡◌, subst, subst₂}
+use Prim.Native.Nat.{ℕ}
 use native.Mathlib.Numerals.{add-one}
 use native.Mathlib.Omega.{arith}
-use denote.Enum.Declared.{tag_of}
 use Rattle.marks.specs.declared.Taken.{Taken}
-use Rattle.marks.specs.contracts.Taken.{the_type}
 use Rattle.marks.specs.Taking.{TakenIs}
 use Rattle.lifts.specs.Lifting.{shown}
 use Rattle.rows.proofs.Walked.{RowsSoFar, no_rows, row_taken, row_refused, rows_taken}
@@ -25,13 +21,12 @@ returns-in_default c =
 
 pub loop-k-preserved : goal.loop-k-preserved
 unfolding shown
-loop-k-preserved c =
-    (
-      omega (arith, c.loop-k-test.true),
-      rw add-one
-          (row_taken c.loop-k.invariant.1
-          (subst₂ (λ (v : ℕ) (r : Taken). TakenIs c.loop-k.marks v c.take-taken.new.words r) c.slot_at.ensures c.in-Added.is c.take-taken.ensures)),
-    )
+loop-k-preserved c = (
+  omega (arith, c.loop-k-test.true),
+  rw add-one
+      (row_taken c.loop-k.invariant.1
+      (subst₂ (λ (v : ℕ) (r : Taken). TakenIs c.loop-k.marks v c.take-taken.new.words r) c.slot_at.ensures c.in-Added.is c.take-taken.ensures)),
+)
 
 pub returns : goal.returns
 returns c =

@@ -14,7 +14,7 @@ pub loop-x-init : goal.loop-x-init
 loop-x-init c = (refl, omega arith, λ w. omega (arith, w.to))
 
 pub in_shaft-requires : goal.in_shaft-requires
-in_shaft-requires c = (c.requires, omega (arith, c.loop-x-test.true))
+in_shaft-requires c = record { ready = c.requires; x_lt_m = omega (arith, c.loop-x-test.true) }
 
 pub loop-x-preserved : goal.loop-x-preserved
 loop-x-preserved c =

@@ -1,7 +1,6 @@
 -- `carries_of` meets its contract. The invariant: the counts beside the slots looked at that show the cassette are added up.
-use Rattle.std.proofs.Common.{◌≡◌, ◌-◌, ◌%◌, ◌^◌, ◌≤◌, eqb, get_or, refl, add-one, arith, rules}
+use Rattle.std.proofs.Common.{◌≡◌, refl, add-one, arith}
 use Rattle.stacks.specs.Count.{sum}
-use Rattle.marks.specs.Cassettes.{given}
 use Rattle.lifts.specs.Lifting.{slot_count}
 use Rattle.replay.specs.Promises.{carries_of}
 use Rattle.replay.proofs.Replayed.carries_of.Goals as goal
