@@ -5,7 +5,7 @@
  * conversions from form to form, what the changer's log says, and some of the
  * ways in which a call is refused.
  *
- *     cc -Iinclude examples/controller.c -Ltarget/staticlib -lhalyardgage
+ *     cc -Iinclude examples/controller.c -Lcrates/halyardgage/out -lhalyardgage
  */
 #include <inttypes.h>
 #include <stdio.h>

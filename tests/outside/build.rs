@@ -10,7 +10,7 @@ fn main() {
     println!("cargo::rerun-if-changed={}", library.display());
     assert!(
         library.is_file(),
-        "there is no {}: make it with 'rt staticlib halyardgage'",
+        "there is no {}: make it with 'rt lib' in crates/halyardgage",
         library.display()
     );
     println!("cargo::rustc-link-search=native={}", folder.display());

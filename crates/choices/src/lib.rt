@@ -1,5 +1,7 @@
 // The choice of a round: which shaft gets its next row, and where its cassette is taken from. `propose` is free to say anything: what it says is tested, and
 // `first_round` is what is proved to be there.
+#![tactic(auto)]
+
 ghost use Rattle.std.specs.Prelude.{ℕ, ◌≤◌, ◌<◌};
 ghost use Rattle.stacks.specs.Run.{Usable};
 ghost use Rattle.stacks.specs.Deciding.{Decides};

@@ -1,5 +1,7 @@
 // The shafts of an image (document 01, "The image"; document 02, 7/13: "for each shaft its depth − 1 (4 bits), height (5) and cassettes", and 8/13), read into lent
 // arrays.
+#![tactic(auto)]
+
 ghost use Rattle.std.specs.Prelude.{◌≤◌, ◌<◌};
 ghost use Rattle.lifts.specs.Lifting.{most_shafts, most_rows};
 ghost use Rattle.image.specs.Image.{wide_width};

@@ -1,4 +1,6 @@
 // The depths of the shafts (document 02, 7/13), and what follows from them: how many slots there are and which, and the list space.
+#![tactic(auto)]
+
 ghost use Rattle.std.specs.Prelude.{◌≡◌, ◌≤◌, min, max};
 ghost use Rattle.stacks.specs.Count.{sum, greatest};
 ghost use Rattle.lifts.specs.Lifting.{most_shafts, slot_count, height_in};

@@ -1,5 +1,7 @@
 // Whether number 12 applies (document 01; document 02, 7/13) to the frame and the arrays of a store: m and the depths in range, and nothing recorded where
 // no cassette may stand.
+#![tactic(auto)]
+
 ghost use Rattle.std.specs.Prelude.{◌≡◌, ◌<◌};
 ghost use Rattle.lifts.specs.Lifting.{most_shafts};
 ghost use Rattle.in_place.specs.InPlace.{all_below, fillable, rows_in_place, in_range, depth_in_place, shaft_in_place, arrays_in_place};

@@ -1,4 +1,6 @@
 // A lift as one byte (document 01, "The list"): "the shaft left in the high four bits, the shaft entered in the low four".
+#![tactic(auto)]
+
 ghost use Rattle.std.specs.Prelude.{◌≡◌, ◌%◌};
 ghost use Rattle.lifts.specs.Bytes.{left, entered, lift_byte};
 

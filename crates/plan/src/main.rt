@@ -1,75 +1,63 @@
 // The program of document 01, "The program": reads start.img and goal.img in the current directory and prints the list of lifts, or why
 // there is none.
-ghost use Rattle.std.specs.Prelude.{◌≡◌, ◌≤◌, length};
-ghost use Rattle.io.specs.Counts.{IsPrefixLen};
+#![tactic(auto)]
+
+ghost use Rattle.std.specs.Prelude.{◌≡◌, ◌≤◌, length, take};
 
 use image::Read;
-use libc::STDOUT_FILENO;
 use lift_bytes::{entered_of, left_of};
 use numbers::read_number;
 use pair_numbers::plan_number;
 use planner::make_list;
 use plans::{PlanAnswer, Planned};
 use reading::read;
+use std::rt::Files;
+use std::{fs, io};
 use store::Store;
 
 // Fills the buffer from a file and tells how many of its bytes count: up to the end of the file or of the buffer, and none where a read
 // fails, also midway.
-fn fill(file: i32, buffer: &mut [u8]) -> usize
-    ensures { IsPrefixLen result buffer.new }
+fn fill(file: &mut impl io::Read, buffer: &mut [u8]) -> usize
+    ensures bound { result ≤ length buffer.new }
+    ensures prefix { result ≡ length (take result buffer.new) }
 {
     let mut done: usize = 0;
     while done < buffer.len() {
-        let got = libc::read(file, &mut buffer[done..]);
-        if got < 0 {
-            return 0;
+        match file.read(&mut buffer[done..]) {
+            Ok(0) => return done,
+            Ok(n) => done += n,
+            Err(_) => return 0,
         }
-        let n = io::count(got, &buffer[done..]);
-        if n == 0 {
-            return done;
-        }
-        done += n;
     }
     done
 }
 
 // Reads a file as an image: its first 500 bytes (request 8/13), none where it can't be read.
-fn read_file(path: &[u8]) -> Read {
+fn read_file(rt: &impl Files, path: &str) -> Read {
     let mut buffer = [0u8; 500];
-    let file = os::open_read(path);
-    if file < 0 {
-        return read(b"");
-    }
-    let n = fill(file, &mut buffer);
-    libc::close(file);
+    let n = match fs::open(rt, path) {
+        Ok(mut file) => fill(&mut file, &mut buffer),
+        Err(_) => 0,
+    };
     read(&buffer[..n])
 }
 
-fn refused(number: u8, word: &[u8]) {
-    io::write_all(STDOUT_FILENO, b"refused ");
-    io::print_decimal(STDOUT_FILENO, number as u64);
-    io::write_all(STDOUT_FILENO, word);
+fn refused(rt: &impl Print, number: u8, word: &str) -> io::Result<()> {
+    println!(rt; "refused {number} {word}")
 }
 
-fn print_lift(b: u8) {
-    io::print_decimal(STDOUT_FILENO, left_of(b).0 as u64);
-    io::write_all(STDOUT_FILENO, b">");
-    io::print_decimal(STDOUT_FILENO, entered_of(b).0 as u64);
-    io::write_all(STDOUT_FILENO, b"\n");
+fn print_lift(rt: &impl Print, b: u8) -> io::Result<()> {
+    let left = left_of(b).0;
+    let entered = entered_of(b).0;
+    println!(rt; "{left}>{entered}")
 }
 
-fn print_list(list: &[u8], count: usize) {
-    io::write_all(STDOUT_FILENO, b"lifts ");
-    io::print_decimal(STDOUT_FILENO, count as u64);
-    io::write_all(STDOUT_FILENO, b"\n");
-    let mut i: usize = 0;
-    while i < count {
-        if list.len() <= i {
-            return;
-        }
-        print_lift(list[i]);
-        i += 1;
+fn print_list(rt: &impl Print, list: &[u8], count: usize) -> io::Result<()> {
+    println!(rt; "lifts {count}")?;
+    for b in list.iter().take(count) {
+        print_lift(rt, *b)?;
     }
+    Ok(())
 }
 
 // The list maker, lent as many bytes as any accepted store needs (`list_space_most`, crates/store/proofs/Space.antt), so that 10 is
@@ -81,34 +69,31 @@ fn planned(start: Store, goal: Store, list: &mut [u8]) -> Planned
     make_list(start, goal, list)
 }
 
-fn print_plan(start: Store, goal: Store) {
+fn print_plan(rt: &impl Print, start: Store, goal: Store) -> io::Result<()> {
     let mut list = [0u8; 18432];
     let made = planned(start, goal, &mut list);
     let answer = made.answer;
     let number = plan_number(answer);
     if number == 0 {
-        print_list(&list, made.count);
-        return;
+        return print_list(rt, &list, made.count);
     }
-    refused(number, b" both\n");
+    refused(rt, number, "both")
 }
 
-fn main() {
-    let one = read_file(b"start.img");
+fn main(rt: HostRuntime) -> io::Result<()> {
+    let one = read_file(&rt, "start.img");
     let first = one.answer;
     let number = read_number(first);
     if number != 0 {
-        refused(number, b" start\n");
-        return;
+        return refused(&rt, number, "start");
     }
-    let two = read_file(b"goal.img");
+    let two = read_file(&rt, "goal.img");
     let second = two.answer;
     let other = read_number(second);
     if other != 0 {
-        refused(other, b" goal\n");
-        return;
+        return refused(&rt, other, "goal");
     }
     let start = one.store;
     let goal = two.store;
-    print_plan(start, goal);
+    print_plan(&rt, start, goal)
 }

@@ -1,8 +1,8 @@
 // Plans cases of document 01, "Filled stores to try", that are not among the proved ones, some with blanks, some with unequal depths and some with numbers past 255, and prints for
 // each the number, the count of lifts and whether a replay of the list ends at the goal. Held to the file stdout.
-use check::same;
+#![tactic(auto)]
+
 use depths::equal;
-use libc::STDOUT_FILENO;
 use lifts::Slots;
 use marks::{Cassette, blank};
 use numbers::end_number;
@@ -10,42 +10,20 @@ use pair_numbers::{plan_number, reach_number};
 use planner::make_list;
 use reachable::reachable;
 use replay::replay;
+use std::io;
 use store::Store;
 
-fn say(what: &[u8], number: u64) {
-    io::write_all(STDOUT_FILENO, what);
-    io::print_decimal(STDOUT_FILENO, number);
+fn say(rt: &impl Print, what: &str, number: u64) -> io::Result<()> {
+    print!(rt; "{what}{number}")
 }
 
 fn same_slots(a: &Slots, b: &Slots) -> bool {
-    let mut i: usize = 0;
-    while i < 256 {
-        if a[i] != b[i] {
-            return false;
-        }
-        i += 1;
-    }
-    true
+    a == b
 }
 
 // Whether two stores are the same.
 fn same_store(s: Store, t: Store) -> bool {
-    if s.m != t.m {
-        return false;
-    }
-    let e = s.depths;
-    let f = t.depths;
-    if !same(&e, &f) {
-        return false;
-    }
-    let a = s.heights;
-    let b = t.heights;
-    if !same(&a, &b) {
-        return false;
-    }
-    let c = s.slots;
-    let d = t.slots;
-    same_slots(&c, &d)
+    s.m == t.m && s.depths == t.depths && s.heights == t.heights && same_slots(&s.slots, &t.slots)
 }
 
 // m shafts of depth h with no cassette.
@@ -84,10 +62,8 @@ const ORDERS: [Cassette; 48] = [
 fn dealt(k: usize) -> Store {
     let first = 8 * (k % 6);
     let mut s = empty(3, 4);
-    let mut i: usize = 0;
-    while i < 8 {
+    for i in 0..8 {
         s = with(s, (i + k % 6) % 3, ORDERS[first + i]);
-        i += 1;
     }
     s
 }
@@ -107,37 +83,36 @@ fn led(start: Store, goal: Store, list: &[u8], count: usize) -> bool {
 }
 
 // What was answered: the number of the yes or no, that of the plan, the count of lifts, and whether they lead to the goal.
-fn tell(reach: u8, plan: u8, count: usize, arrived: bool) {
-    say(b": yes or no ", reach as u64);
-    say(b", plan ", plan as u64);
-    say(b", lifts ", count as u64);
+fn tell(rt: &impl Print, reach: u8, plan: u8, count: usize, arrived: bool) -> io::Result<()> {
+    say(rt, ": yes or no ", reach as u64)?;
+    say(rt, ", plan ", plan as u64)?;
+    say(rt, ", lifts ", count as u64)?;
     if arrived {
-        io::write_all(STDOUT_FILENO, b", replay ends at the goal");
+        print!(rt; ", replay ends at the goal")?;
     }
-    io::write_all(STDOUT_FILENO, b"\n");
+    println!(rt)
 }
 
-fn show(what: &[u8], start: Store, goal: Store, list: &mut [u8]) {
-    io::write_all(STDOUT_FILENO, what);
+fn show(rt: &impl Print, what: &str, start: Store, goal: Store, list: &mut [u8]) -> io::Result<()> {
+    print!(rt; "{what}")?;
     let planned = make_list(start, goal, list);
     let answer = planned.answer;
     let count = planned.count;
     let reach = reach_number(reachable(start, goal));
     tell(
+        rt,
         reach,
         plan_number(answer),
         count,
         led(start, goal, list, count),
-    );
+    )
 }
 
 // m 16, h 16 with 255 cassettes, each number from 1 to 255 once: shaft by shaft, counted from a number on.
 fn nearly_full(from: usize) -> Store {
     let mut s = empty(16, 16);
-    let mut i: usize = 0;
-    while i < 255 {
+    for i in 0..255 {
         s = with(s, i / 16, ((i + from % 255) % 255 + 1) as u16);
-        i += 1;
     }
     s
 }
@@ -150,54 +125,59 @@ fn one_or_blank(one: bool) -> Cassette {
 // m 16, h 16 with n cassettes, shaft by shaft: cassette 1 at place `at` of them, and blanks.
 fn blanks_but_one(n: usize, at: usize) -> Store {
     let mut s = empty(16, 16);
-    let mut i: usize = 0;
-    while i < n {
+    for i in 0..n {
         s = with(s, i / 16, one_or_blank(i == at));
-        i += 1;
     }
     s
 }
 
-fn dealt_cases(list: &mut [u8]) {
-    let mut k: usize = 0;
-    while k < 6 {
+fn dealt_cases(rt: &impl Print, list: &mut [u8]) -> io::Result<()> {
+    for k in 0..6 {
         show(
-            b"m 3, h 4, n 8, dealt another way",
+            rt,
+            "m 3, h 4, n 8, dealt another way",
             dealt(k),
             dealt(k + 1),
             list,
-        );
-        k += 1;
+        )?;
     }
+    Ok(())
 }
 
-fn space_cases(enough: &mut [u8], less: &mut [u8]) {
-    show(b"list space of 4hn + 8n bytes", dealt(0), dealt(1), enough);
-    show(b"one byte less", dealt(0), dealt(1), less);
-    show(b"start equal to goal", dealt(0), dealt(0), enough);
+fn space_cases(rt: &impl Print, enough: &mut [u8], less: &mut [u8]) -> io::Result<()> {
+    show(
+        rt,
+        "list space of 4hn + 8n bytes",
+        dealt(0),
+        dealt(1),
+        enough,
+    )?;
+    show(rt, "one byte less", dealt(0), dealt(1), less)?;
+    show(rt, "start equal to goal", dealt(0), dealt(0), enough)
 }
 
 // Too little is lent, as `so_much` says: 15 and 9 come before 10 (request 6/13).
-fn short_cases(so_much: &[u8], less: &mut [u8]) {
+fn short_cases(rt: &impl Print, so_much: &str, less: &mut [u8]) -> io::Result<()> {
     let start = nearly_full(0);
     let goal = nearly_full(1);
-    io::write_all(STDOUT_FILENO, so_much);
-    show(b", all numbers one place on", start, goal, less);
-    io::write_all(STDOUT_FILENO, so_much);
-    show(b", one blank more", start, with(goal, 15, blank()), less);
-    io::write_all(STDOUT_FILENO, so_much);
-    show(b", dealt another way", dealt(0), dealt(1), less);
+    print!(rt; "{so_much}")?;
+    show(rt, ", all numbers one place on", start, goal, less)?;
+    print!(rt; "{so_much}")?;
+    show(rt, ", one blank more", start, with(goal, 15, blank()), less)?;
+    print!(rt; "{so_much}")?;
+    show(rt, ", dealt another way", dealt(0), dealt(1), less)
 }
 
-fn refused_cases(list: &mut [u8]) {
+fn refused_cases(rt: &impl Print, list: &mut [u8]) -> io::Result<()> {
     show(
-        b"other cassettes",
+        rt,
+        "other cassettes",
         with(empty(3, 3), 0, 1),
         with(empty(3, 3), 0, 2),
         list,
-    );
-    show(b"another m", empty(3, 3), empty(4, 3), list);
-    show(b"a store of m 0", empty(0, 3), empty(3, 3), list);
+    )?;
+    show(rt, "another m", empty(3, 3), empty(4, 3), list)?;
+    show(rt, "a store of m 0", empty(0, 3), empty(3, 3), list)
 }
 
 // Two cassettes, in the first two of m shafts of depth h.
@@ -206,34 +186,38 @@ fn apart(m: u8, h: u8, c: Cassette, d: Cassette) -> Store {
 }
 
 // Numbers past 255, and such as share their low bits (request 8/13).
-fn number_cases(list: &mut [u8]) {
+fn number_cases(rt: &impl Print, list: &mut [u8]) -> io::Result<()> {
     show(
-        b"64 for 4032",
+        rt,
+        "64 for 4032",
         with(empty(3, 3), 0, 4032),
         with(empty(3, 3), 0, 64),
         list,
-    );
+    )?;
     show(
-        b"255 for a blank",
+        rt,
+        "255 for a blank",
         with(empty(3, 3), 0, blank()),
         with(empty(3, 3), 0, 255),
         list,
-    );
+    )
 }
 
-fn exchanged_cases(list: &mut [u8]) {
+fn exchanged_cases(rt: &impl Print, list: &mut [u8]) -> io::Result<()> {
     show(
-        b"64 and 4032 exchanged",
+        rt,
+        "64 and 4032 exchanged",
         apart(3, 1, 64, 4032),
         apart(3, 1, 4032, 64),
         list,
-    );
+    )?;
     show(
-        b"two shafts, 255 and a blank exchanged",
+        rt,
+        "two shafts, 255 and a blank exchanged",
         apart(2, 2, 255, blank()),
         apart(2, 2, blank(), 255),
         list,
-    );
+    )
 }
 
 // m 3, depths 4, 3 and 2, n 6: cassettes 1 to 6, turned by k among the places [. . .] [. .] [.].
@@ -257,68 +241,90 @@ fn deeper(k: usize) -> Store {
 }
 
 // Row 1 of shaft 0 never changes: e is 3, and the depths are 4, 3 and 2.
-fn uneven_cases(list: &mut [u8]) {
-    show(b"depths 4 3 2, bottom changed", uneven(0), uneven(1), list);
-    show(b"depths 4 3 2, to itself", uneven(0), uneven(0), list);
+fn uneven_cases(rt: &impl Print, list: &mut [u8]) -> io::Result<()> {
+    show(
+        rt,
+        "depths 4 3 2, bottom changed",
+        uneven(0),
+        uneven(1),
+        list,
+    )?;
+    show(rt, "depths 4 3 2, to itself", uneven(0), uneven(0), list)
 }
 
 // With one empty slot more no row is kept, and the frames differ.
-fn deeper_cases(list: &mut [u8]) {
-    show(b"depths 4 3 3, e 4", deeper(0), deeper(1), list);
-    show(b"depths 4 3 2 and 4 3 3", uneven(0), deeper(0), list);
+fn deeper_cases(rt: &impl Print, list: &mut [u8]) -> io::Result<()> {
+    show(rt, "depths 4 3 3, e 4", deeper(0), deeper(1), list)?;
+    show(rt, "depths 4 3 2 and 4 3 3", uneven(0), deeper(0), list)
 }
 
-fn full_cases(list: &mut [u8]) {
+fn full_cases(rt: &impl Print, list: &mut [u8]) -> io::Result<()> {
     show(
-        b"m 16, h 16, n 255, to itself",
+        rt,
+        "m 16, h 16, n 255, to itself",
         nearly_full(0),
         nearly_full(0),
         list,
-    );
+    )?;
     show(
-        b"m 16, h 16, n 255, all numbers one place on",
+        rt,
+        "m 16, h 16, n 255, all numbers one place on",
         nearly_full(0),
         nearly_full(1),
         list,
-    );
+    )
 }
 
 // Cassette 1 among blanks: to one place and to another.
-fn blank_case(what: &[u8], n: usize, one: usize, other: usize, list: &mut [u8]) {
-    show(what, blanks_but_one(n, one), blanks_but_one(n, other), list);
+fn blank_case(
+    rt: &impl Print,
+    what: &str,
+    n: usize,
+    one: usize,
+    other: usize,
+    list: &mut [u8],
+) -> io::Result<()> {
+    show(
+        rt,
+        what,
+        blanks_but_one(n, one),
+        blanks_but_one(n, other),
+        list,
+    )
 }
 
-fn full_of_blanks(list: &mut [u8]) {
-    blank_case(b"m 16, h 16, 256 blanks", 256, 256, 256, list);
-    blank_case(b"full, another blank's place", 256, 0, 16, list);
+fn full_of_blanks(rt: &impl Print, list: &mut [u8]) -> io::Result<()> {
+    blank_case(rt, "m 16, h 16, 256 blanks", 256, 256, 256, list)?;
+    blank_case(rt, "full, another blank's place", 256, 0, 16, list)?;
     show(
-        b"one blank more",
+        rt,
+        "one blank more",
         blanks_but_one(240, 0),
         blanks_but_one(241, 0),
         list,
-    );
+    )
 }
 
-fn room_among_blanks(list: &mut [u8]) {
-    blank_case(b"e 1, above the rows that stay", 255, 15, 31, list);
-    blank_case(b"e 1, among the rows that stay", 255, 0, 16, list);
-    blank_case(b"e 16, from below to the top", 240, 0, 239, list);
+fn room_among_blanks(rt: &impl Print, list: &mut [u8]) -> io::Result<()> {
+    blank_case(rt, "e 1, above the rows that stay", 255, 15, 31, list)?;
+    blank_case(rt, "e 1, among the rows that stay", 255, 0, 16, list)?;
+    blank_case(rt, "e 16, from below to the top", 240, 0, 239, list)
 }
 
-fn main() {
+fn main(rt: HostRuntime) -> io::Result<()> {
     let mut enough = [0u8; 192];
-    dealt_cases(&mut enough);
+    dealt_cases(&rt, &mut enough)?;
     let mut less = [0u8; 191];
-    space_cases(&mut enough, &mut less);
-    short_cases(b"191 bytes", &mut less);
-    short_cases(b"no byte", &mut less[..0]);
-    refused_cases(&mut enough);
-    number_cases(&mut enough);
-    exchanged_cases(&mut enough);
-    uneven_cases(&mut enough);
-    deeper_cases(&mut enough);
+    space_cases(&rt, &mut enough, &mut less)?;
+    short_cases(&rt, "191 bytes", &mut less)?;
+    short_cases(&rt, "no byte", &mut less[..0])?;
+    refused_cases(&rt, &mut enough)?;
+    number_cases(&rt, &mut enough)?;
+    exchanged_cases(&rt, &mut enough)?;
+    uneven_cases(&rt, &mut enough)?;
+    deeper_cases(&rt, &mut enough)?;
     let mut list = [0u8; 18432];
-    full_cases(&mut list);
-    full_of_blanks(&mut list);
-    room_among_blanks(&mut list);
+    full_cases(&rt, &mut list)?;
+    full_of_blanks(&rt, &mut list)?;
+    room_among_blanks(&rt, &mut list)
 }

@@ -30,14 +30,14 @@ module _ (s t : Store) where
   pub test_false : Comparable s t → (Reachable s t → ⊥) → rule_test s t ≡ false
   test_false p = says_not (rule_test s t) (reachable_test s t p)
 
-  reach_told : (r : Reach) → ReachSays s t r → reach_told (pair_told s t) ≡ r
+  reach_told_lem : (r : Reach) → ReachSays s t r → reach_told (pair_told s t) ≡ r
   unfolding reach_told
-  reach_told Reach.Yes (p, q) = ap reach_told (pair_told_lem s t Pair.Comparable p) ∙ ap yes_or_no (test_true p q)
-  reach_told (Reach.Refused f) e = ap reach_told (pair_told_lem s t (Pair.Refused f) e)
-  reach_told Reach.Unreachable (p, n) = ap reach_told (pair_told_lem s t Pair.Comparable p) ∙ ap yes_or_no (test_false p n)
+  reach_told_lem Reach.Yes (p, q) = ap reach_told (pair_told_lem s t Pair.Comparable p) ∙ ap yes_or_no (test_true p q)
+  reach_told_lem (Reach.Refused f) e = ap reach_told (pair_told_lem s t (Pair.Refused f) e)
+  reach_told_lem Reach.Unreachable (p, n) = ap reach_told (pair_told_lem s t Pair.Comparable p) ∙ ap yes_or_no (test_false p n)
 
   pub one_reach : (r q : Reach) → ReachSays s t r → ReachSays s t q → r ≡ q
-  one_reach r q a b = sym (reach_told r a) ∙ reach_told q b
+  one_reach r q a b = sym (reach_told_lem r a) ∙ reach_told_lem q b
 
   -- its number is the first of the start's, the goal's, 8, 9 and 15
   pub reach_numbered : (r : Reach) → ReachSays s t r → reach_number r ≡ first (pair_fault s t) (given (not (rule_test s t)) 15)

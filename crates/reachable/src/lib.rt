@@ -1,4 +1,6 @@
 // The yes or no (document 01, "Which goals can be reached", "Which comes first").
+#![tactic(auto)]
+
 ghost use Rattle.std.specs.Prelude.{◌≡◌};
 ghost use Rattle.reachable.specs.Promises.{yes_or_no, ReachSays};
 

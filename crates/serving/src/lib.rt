@@ -1,4 +1,6 @@
 // A shaft served: the next cassette of it brought into place, out of its own shaft first if it stands there.
+#![tactic(auto)]
+
 ghost use Rattle.std.specs.Prelude.{◌+◌, ◌*◌, ◌≤◌, length};
 ghost use Rattle.choices.specs.Choices.{RoundFor};
 ghost use Rattle.turns.specs.Turning.{OnTheWay, Ready};

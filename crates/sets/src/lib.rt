@@ -1,4 +1,6 @@
 // Sets of shafts as 16 bits, bit 0 for shaft 0, and rows of them (document 02, 10/13).
+#![tactic(auto)]
+
 ghost use Rattle.std.specs.Prelude.{cond, ◌≡◌, ◌+◌, ◌≤◌, ◌<◌, set};
 ghost use Rattle.stacks.specs.Count.{one};
 ghost use Rattle.stacks.specs.Deciding.{Decides};

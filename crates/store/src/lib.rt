@@ -1,5 +1,7 @@
 // The cassette store: what stands where, whether a store given as a value is accepted, and single lifts (document 01, "The store";
 // document 000, Definitions 3.1 and 3.2). The definitions that the contracts cite are in specs/.
+#![tactic(auto)]
+
 pub mod accept;
 pub mod lift;
 

@@ -1,4 +1,6 @@
 // A slot made outside two shafts, where none is left: the top of a third shaft goes to the second of them.
+#![tactic(auto)]
+
 ghost use Rattle.std.specs.Prelude.{◌+◌, ◌≤◌, ◌<◌, length};
 ghost use Rattle.lifts.specs.Lifting.{height_in};
 ghost use Rattle.turns.specs.Turning.{OtherIs, ThirdIs, LentIs, Ready, TurnedIs};

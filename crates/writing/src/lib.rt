@@ -1,4 +1,6 @@
 // Writing an image in the form that the caller names (document 02, 8/13): the store's faults, then 1, 18, 10, and then the fields one after the other.
+#![tactic(auto)]
+
 ghost use Rattle.image.specs.Writing.{RefusedWrite, WriteIs};
 
 use forms::{can_hold, length_in};

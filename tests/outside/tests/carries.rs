@@ -21,7 +21,7 @@ fn program() -> PathBuf {
     let path = path.filter(|path| path.is_absolute() && path.is_file());
     path.expect(
         "HALYARD_CARRY_CASES must be the absolute path of the program carry_cases: \
-         'rt check carry_cases' makes it as target/bin/carry_cases",
+         'rt run' in crates/carry_cases makes it as out/carry_cases",
     )
 }
 

@@ -27,7 +27,7 @@ returns-in-Refused c =
 
 pub rule_holds-requires : goal.rule_holds-requires
 rule_holds-requires c =
-    (comparable_by _ _ _ c.compare-compared.ensures c.in_default.is, count_by _ _ _ c.compare-compared.ensures c.in_default.is)
+    record { comparable = comparable_by _ _ _ c.compare-compared.ensures c.in_default.is; n_value = count_by _ _ _ c.compare-compared.ensures c.in_default.is }
 
 pub returns : goal.returns
 returns c =

@@ -16,7 +16,7 @@ loop-x-init c = (omega arith, refl, below_none _)
 pub in_or_same-requires : goal.in_or_same-requires
 in_or_same-requires c =
     let q = c.requires in
-    (q, omega (arith, c.loop-x-test.true, c.loop-x.invariant.1, q.shafts))
+    record { shaped = q; x_lt_most_shafts = omega (arith, c.loop-x-test.true, c.loop-x.invariant.1, q.shafts) }
 
 pub returns-then-not-in_or_same : goal.returns-then-not-in_or_same
 returns-then-not-in_or_same c =

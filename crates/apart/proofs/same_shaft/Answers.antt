@@ -12,7 +12,7 @@ returns-then-height-t c =
 pub same_rows-requires : goal.same_rows-requires
 same_rows-requires c =
     let q = c.requires in
-    (q.1, omega (arith, q.0.heights c.args.x, q.0.rows c.args.x))
+    (q.x_lt_most_shafts, omega (arith, q.shaped.heights c.args.x, q.shaped.rows c.args.x))
 
 pub returns : goal.returns
 returns c =

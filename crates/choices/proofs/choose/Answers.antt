@@ -1,5 +1,4 @@
 -- `choose` meets its contract.
-use borrow.Author.Rules.{rules}
 use Rattle.choices.proofs.choose.Goals as goal
 
 pub returns-then-playable : goal.returns-then-playable

@@ -1,7 +1,6 @@
 -- `cover` meets its contract.
 use Prim.Native.Nat.{◌/◌}
 use native.Mathlib.Omega.{arith}
-use borrow.Author.Rules.{rules}
 use Rattle.choices.proofs.cover.Goals as goal
 
 pub overflow_add-result : goal.overflow_add-result

@@ -1,9 +1,6 @@
 -- `first_left` meets its contract.
 use borrow.Author.Count.{below_none, below_more}
-use Prim.Native.Nat.{ℕ, ◌-◌, ◌≤◌, ◌<◌}
 use native.Mathlib.Omega.{arith}
-use Rattle.lifts.specs.Lifting.{height_in}
-use borrow.Author.Rules.{rules}
 use Rattle.choices.proofs.first_left.Goals as goal
 
 pub loop-x-init : goal.loop-x-init

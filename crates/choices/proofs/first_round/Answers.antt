@@ -2,7 +2,6 @@
 use native.Mathlib.Omega.{arith}
 use Rattle.finding.proofs.FindLaws.{some_found}
 use Rattle.choices.proofs.RoundLaws.{round_found, found_somewhere}
-use borrow.Author.Rules.{rules}
 use Rattle.choices.proofs.first_round.Goals as goal
 
 pub next-v-requires : goal.next-v-requires
@@ -20,5 +19,5 @@ pub returns : goal.returns
 returns c =
     let a = c.args in
     absurd
-    (found_somewhere a.f a.tops a.goal.now a.done.now a.heights.now a.slots.now c.next-v.result c.requires.fits_2.1 c.first_left-to.result.0
+    (found_somewhere a.f a.tops a.goal.now a.done.now a.heights.now a.slots.now c.next-v.result c.requires.some_round c.first_left-to.result.0
     c.first_left-to.ensures c.next-v.ensures _ c.find.ensures c.in_default.is)

@@ -1,7 +1,5 @@
 -- `propose` meets its contract.
-use Prim.Native.Nat.{◌-◌, ◌≤◌}
 use native.Mathlib.Omega.{arith}
-use borrow.Author.Rules.{rules}
 use Rattle.choices.proofs.propose.Goals as goal
 
 pub next-v-requires : goal.next-v-requires

@@ -1,7 +1,5 @@
 -- `propose` meets its contract.
 use Prim.Native.Nat.{◌-◌, ◌≤◌}
-use native.Mathlib.Omega.{arith}
-use borrow.Author.Rules.{rules}
 use Rattle.choices.proofs.propose.Given as goal
 
 abbrev pub invariant-loop-x : goal.invariant-loop-x

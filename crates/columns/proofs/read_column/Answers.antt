@@ -1,7 +1,6 @@
 -- `read_column` meets its contract: a fault is kept; else 3, or the height set and then the rows.
 use native.Mathlib.Omega.{arith}
 use Rattle.columns.proofs.Parts.{column_kept, column_high, column_goes}
-use borrow.Author.Rules.{rules}
 use Rattle.columns.proofs.read_column.Goals as goal
 
 pub returns-then-c-ne0 : goal.returns-then-c-ne0
@@ -18,10 +17,10 @@ returns-then-d-rows c =
 pub read_rows-requires : goal.read_rows-requires
 read_rows-requires c =
     let p = c.requires in
-    ((p.0.0, omega (arith, c.if-d-rows.false, p.0.1), p.1.0.0), p.1.1)
+    record { x_lt_most_shafts = (p.x_lt_most_shafts.0, omega (arith, c.if-d-rows.false, p.x_lt_most_shafts.1), p.at_bound.0); w_nonzero = p.w_nonzero }
 
 pub returns : goal.returns
 returns c =
     let a = c.args in
     column_goes a.image.now a.w a.d a.x a.heights.now a.slots.now a.marks.now a.c c.if-c-ne0.false
-    (omega (arith, c.if-d-rows.false)) c.requires.x_lt_most_shafts.1 c.requires.at_bound.1.1 c.read_rows.ensures
+    (omega (arith, c.if-d-rows.false)) c.requires.x_lt_most_shafts.1 c.requires.w_nonzero.1 c.read_rows.ensures

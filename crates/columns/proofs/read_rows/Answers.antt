@@ -1,6 +1,6 @@
 -- `read_rows` meets its contract: after k turns the first k rows are read.
 use mathlib.Core.Path.{◌≡◌, subst}
-use Prim.Native.Nat.{ℕ, ◌-◌, ◌≤◌}
+use Prim.Native.Nat.{ℕ, ◌≤◌}
 use native.Mathlib.Omega.{arith}
 use native.Mathlib.Nat.{mul-le-mul}
 use Rattle.lifts.specs.Lifting.{most_rows}

@@ -1,11 +1,6 @@
 -- `read_rows` meets its contract: after k turns the first k rows are read.
-use mathlib.Core.Path.{◌≡◌, subst}
-use Prim.Native.Nat.{ℕ, ◌-◌, ◌≤◌}
-use native.Mathlib.Omega.{arith}
-use native.Mathlib.Nat.{mul-le-mul}
-use Rattle.lifts.specs.Lifting.{most_rows}
+use Prim.Native.Nat.{◌-◌, ◌≤◌}
 use Rattle.columns.specs.Columns.{RowsRead}
-use Rattle.columns.proofs.Parts.{no_rows, row_more}
 use Rattle.columns.proofs.read_rows.Given as goal
 
 abbrev pub invariant-loop-k : goal.invariant-loop-k

@@ -1,7 +1,6 @@
 -- `read_shafts` meets its contract: after x turns the shafts below x are read.
-use borrow.Author.Rules.{rules}
 use mathlib.Core.Path.{◌≡◌, refl, subst}
-use Prim.Native.Nat.{ℕ, ◌-◌, ◌≤◌}
+use Prim.Native.Nat.{ℕ}
 use native.Mathlib.Omega.{arith}
 use Rattle.columns.specs.Columns.{ShaftsRead}
 use Rattle.columns.proofs.Parts.{no_shafts, shaft_more}

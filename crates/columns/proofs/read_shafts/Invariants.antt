@@ -1,10 +1,7 @@
 -- `read_shafts` meets its contract: after x turns the shafts below x are read.
-use borrow.Author.Rules.{rules}
-use mathlib.Core.Path.{◌≡◌, refl, subst}
-use Prim.Native.Nat.{ℕ, ◌-◌, ◌≤◌}
-use native.Mathlib.Omega.{arith}
+use mathlib.Core.Path.{◌≡◌}
+use Prim.Native.Nat.{◌-◌, ◌≤◌}
 use Rattle.columns.specs.Columns.{ShaftsRead}
-use Rattle.columns.proofs.Parts.{no_shafts, shaft_more}
 use Rattle.columns.proofs.read_shafts.Given as goal
 
 abbrev pub invariant-loop-x : goal.invariant-loop-x

@@ -1,11 +1,8 @@
 -- `deepest_of` meets its contract. The invariant: the greatest of the depths passed.
-use borrow.Author.Rules.{rules}
 use mathlib.Core.Path.{◌≡◌, refl}
-use Prim.Native.Nat.{◌-◌, ◌≤◌}
 use native.Mathlib.Numerals.{add-one}
 use native.Mathlib.Omega.{arith}
 use Rattle.stacks.specs.Count.{greatest}
-use Rattle.depths.specs.Depths.{depth_by}
 use Rattle.depths.proofs.deepest_of.Goals as goal
 
 pub loop-x-init : goal.loop-x-init

@@ -1,12 +1,7 @@
 -- `equal` meets its contract. The invariant: the shafts passed have depth h, and the others none so far.
-use borrow.Author.Rules.{rules}
-use mathlib.Core.Path.{◌≡◌, refl, ◌∙◌}
+use mathlib.Core.Path.{◌≡◌}
 use Prim.Native.Nat.{ℕ, ◌-◌, ◌≤◌, ◌<◌}
-use native.Mathlib.Decide.{ℕ_discrete}
-use native.Mathlib.Omega.{arith}
-use lib.ListN.{length, length-set}
-use lib.Seq.{get_or-set_same, get_or-set_other}
-use Rattle.marks.proofs.MarkLaws.{zeros}
+use lib.ListN.{length}
 use Rattle.lifts.specs.Lifting.{most_shafts}
 use Rattle.depths.specs.Depths.{depth_by}
 use Rattle.depths.proofs.equal.Given as goal

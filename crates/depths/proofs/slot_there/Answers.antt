@@ -2,7 +2,6 @@
 use mathlib.Core.Path.{sym}
 use native.Mathlib.Omega.{arith}
 use Rattle.depths.proofs.SlotThere.{slot_past, slot_beyond, slot_none, slot_above, slot_there_lem}
-use borrow.Author.Rules.{rules}
 use Rattle.depths.proofs.slot_there.Goals as goal
 
 pub returns-then-m-x : goal.returns-then-m-x

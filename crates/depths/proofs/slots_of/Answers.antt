@@ -1,5 +1,4 @@
 -- `slots_of` meets its contract: the depths stand in an array as the heights do.
-use borrow.Author.Rules.{rules}
 use Rattle.depths.specs.Depths.{depth_by}
 use Rattle.depths.proofs.slots_of.Goals as goal
 

@@ -1,9 +1,6 @@
 -- `sum_of` meets its contract. The invariant: `all` is the sum of the heights passed, of which none is more than 255.
-use borrow.Author.Rules.{rules}
-use mathlib.Core.Path.{◌≡◌, refl}
+use mathlib.Core.Path.{◌≡◌}
 use Prim.Native.Nat.{◌-◌, ◌*◌, ◌≤◌}
-use native.Mathlib.Numerals.{add-one}
-use native.Mathlib.Omega.{arith}
 use Rattle.stacks.specs.Count.{sum}
 use Rattle.lifts.specs.Lifting.{height_in}
 use Rattle.depths.proofs.sum_of.Given as goal

@@ -1,6 +1,4 @@
 -- `arrays_in_place` meets its contract: m, then the shafts.
-use borrow.Author.Rules.{rules}
-use borrow.Author.Tests.{not-true, not-false}
 use mathlib.Core.Path.{sym, ◌∙◌}
 use Rattle.in_place.proofs.arrays_in_place.Goals as goal
 

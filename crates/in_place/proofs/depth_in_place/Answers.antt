@@ -1,5 +1,4 @@
 -- `depth_in_place` meets its contract: the depth in range where the shaft is below m, else none.
-use borrow.Author.Rules.{rules}
 use mathlib.Core.Path.{sym, ap, ◌∙◌}
 use lib.Dec.{eqb}
 use Prim.Native.Nat.{ℕ}

@@ -1,6 +1,5 @@
 -- `fillable_rows` meets its contract: the height where the shaft is below m, else none.
 use borrow.Author.Tests.{lt-ltb, le-ltb}
-use borrow.Author.Rules.{rules}
 use Rattle.in_place.proofs.fillable_rows.Goals as goal
 
 pub returns-then-x-m : goal.returns-then-x-m

@@ -1,11 +1,9 @@
 -- `rows_in_place` meets its contract. The invariant: the slots passed, from the fillable rows up, are empty.
-use borrow.Author.Rules.{rules}
-use mathlib.Core.Path.{◌≡◌, sym, ap, ◌∙◌}
-use Prim.Native.Nat.{ℕ, suc, ◌-◌, ◌≤◌, ◌<◌}
+use mathlib.Core.Path.{sym, ap, ◌∙◌}
+use Prim.Native.Nat.{ℕ, suc}
 use native.Mathlib.Decide.{ℕ_discrete}
 use native.Mathlib.Omega.{arith}
-use Rattle.lifts.specs.Lifting.{height_in, shown}
-use Rattle.in_place.specs.InPlace.{fillable}
+use Rattle.lifts.specs.Lifting.{shown}
 use Rattle.in_place.proofs.InPlace.{rows_past, slot_filled, rows_fit}
 use Rattle.in_place.proofs.rows_in_place.Goals as goal
 

@@ -1,12 +1,8 @@
 -- `rows_in_place` meets its contract. The invariant: the slots passed, from the fillable rows up, are empty.
-use borrow.Author.Rules.{rules}
-use mathlib.Core.Path.{◌≡◌, sym, ap, ◌∙◌}
+use mathlib.Core.Path.{◌≡◌}
 use Prim.Native.Nat.{ℕ, suc, ◌-◌, ◌≤◌, ◌<◌}
-use native.Mathlib.Decide.{ℕ_discrete}
-use native.Mathlib.Omega.{arith}
 use Rattle.lifts.specs.Lifting.{height_in, shown}
 use Rattle.in_place.specs.InPlace.{fillable}
-use Rattle.in_place.proofs.InPlace.{rows_past, slot_filled, rows_fit}
 use Rattle.in_place.proofs.rows_in_place.Given as goal
 
 abbrev pub invariant-loop-k : goal.invariant-loop-k

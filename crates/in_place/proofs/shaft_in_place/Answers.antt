@@ -1,6 +1,4 @@
 -- `shaft_in_place` meets its contract: the depth, then the rows.
-use borrow.Author.Rules.{rules}
-use borrow.Author.Tests.{not-true, not-false}
 use mathlib.Core.Path.{sym, ◌∙◌}
 use Rattle.in_place.proofs.shaft_in_place.Goals as goal
 

@@ -1,14 +1,9 @@
 -- `shafts_in_place` meets its contract. The invariant: the shafts passed are in place.
-use borrow.Author.Rules.{rules}
-use borrow.Author.Tests.{not-true, not-false}
 use mathlib.Core.Bool.{true}
-use mathlib.Core.Path.{◌≡◌, refl, sym, ap, ◌∙◌}
-use Prim.Native.Nat.{ℕ, ◌-◌, ◌≤◌}
-use native.Mathlib.Numerals.{add-one}
-use native.Mathlib.Omega.{arith}
+use mathlib.Core.Path.{◌≡◌}
+use Prim.Native.Nat.{◌-◌, ◌≤◌}
 use Rattle.lifts.specs.Lifting.{most_shafts}
 use Rattle.in_place.specs.InPlace.{all_below, shaft_in_place}
-use Rattle.in_place.proofs.AllBelow.{all_more, all_fails}
 use Rattle.in_place.proofs.shafts_in_place.Given as goal
 
 abbrev pub invariant-loop-x : goal.invariant-loop-x

@@ -1,13 +1,8 @@
 -- `fits` meets its contract. The invariant: no shaft passed, from m on, is in the set.
-use borrow.Author.Rules.{rules}
 use mathlib.Core.Bool.{false}
-use mathlib.Core.Path.{◌≡◌, sym, ◌∙◌}
+use mathlib.Core.Path.{◌≡◌}
 use Prim.Native.Nat.{ℕ, ◌-◌, ◌≤◌, ◌<◌}
-use native.Mathlib.Decide.{ℕ_discrete, dec_lt}
-use native.Mathlib.Omega.{arith}
-use Rattle.stacks.proofs.Deciding.{true_false, holds, fails}
 use Rattle.sets.specs.Sets.{has}
-use Rattle.sets.proofs.SetLaws.{none_past}
 use Rattle.sets.proofs.fits.Given as goal
 
 abbrev pub invariant-loop-x : goal.invariant-loop-x

@@ -1,5 +1,4 @@
 -- `has` meets its contract: the shift and the mask are the quotient and the remainder of the definition.
-use borrow.Author.Rules.{rules}
 use mathlib.Core.Path.{ap}
 use Prim.Native.Nat.{ℕ, ◌/◌, ◌^◌}
 use lib.Bits.{and_mask}

@@ -1,11 +1,9 @@
 -- `numbering_of` meets its contract. The invariant: the shafts passed that are in the set have their numbers, and no other number is given.
-use borrow.Author.Rules.{rules}
 use mathlib.Core.Path.{◌≡◌, refl, ap, ◌∙◌}
-use Prim.Native.Nat.{ℕ, ◌-◌, ◌≤◌, ◌<◌}
+use Prim.Native.Nat.{ℕ}
 use native.Mathlib.Numerals.{add-one}
 use native.Mathlib.Omega.{arith}
-use lib.ListN.{length, get_or, get_or-replicate}
-use Rattle.lifts.specs.Lifting.{most_shafts}
+use lib.ListN.{length, get_or-replicate}
 use Rattle.sets.specs.Sets.{shafts_in, shaft_at}
 use Rattle.sets.proofs.SetLaws.{shafts_few, numbered_more}
 use Rattle.sets.proofs.numbering_of.Goals as goal

@@ -1,14 +1,8 @@
 -- `times_in` meets its contract. The invariant: how many of the sets passed have the shaft.
-use borrow.Author.Rules.{rules}
-use mathlib.Core.List.{List}
-use mathlib.Core.Path.{◌≡◌, refl, ap, ◌∙◌}
-use Prim.Native.Nat.{ℕ, ◌-◌, ◌≤◌}
-use native.Mathlib.Numerals.{add-one}
-use native.Mathlib.Omega.{arith}
+use mathlib.Core.Path.{◌≡◌}
+use Prim.Native.Nat.{◌-◌, ◌≤◌}
 use lib.ListN.{length, take}
-use lib.Seq.{take_all}
 use Rattle.sets.specs.Sets.{times_in}
-use Rattle.sets.proofs.RowLaws.{times_more, bit_most, bit_one}
 use Rattle.sets.proofs.times_in.Given as goal
 
 abbrev pub invariant-loop-i : goal.invariant-loop-i

@@ -1,5 +1,4 @@
 -- `content` meets its contract: 0 where the store has no such slot, else what the slot shows.
-use borrow.Author.Tests.{not-true, not-false}
 use mathlib.Core.Bool.{Bool, true}
 use mathlib.Core.Path.{◌≡◌, sym, ◌∙◌}
 use Prim.Native.Nat.{ℕ, ◌≤◌, ◌<◌}
@@ -9,7 +8,6 @@ use Rattle.store.specs.declared.Store.{Store}
 use Rattle.store.specs.Slots.{has_slot}
 use Rattle.depths.proofs.SlotThere.{slot_range}
 use Rattle.store.proofs.Lifting.{content_none, content_at}
-use borrow.Author.Rules.{rules}
 use Rattle.store.proofs.Store.content.Goals as goal
 
 -- past the test the store has the slot

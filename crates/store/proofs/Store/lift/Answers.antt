@@ -1,5 +1,4 @@
 -- `lift` meets its contract: the store's own fault, or what was tried in its arrays.
-use borrow.Author.Rules.{rules}
 use Rattle.store.proofs.Acceptance.{accepted_shaped}
 use Rattle.store.proofs.Checks.{accepted_none, refused_one}
 use Rattle.store.proofs.Lifting.{store_refused, lift_tried}

@@ -1,18 +1,12 @@
 -- `check_shafts` meets its contract. The invariant: the shafts passed were taken without a fault.
-use borrow.Author.Rules.{rules}
 use mathlib.Core.List.{List}
 use mathlib.Core.Path.{◌≡◌, refl, ap, subst}
-use Prim.Native.Nat.{ℕ, ◌-◌, ◌≤◌}
+use Prim.Native.Nat.{ℕ, ◌≤◌}
 use native.Mathlib.Numerals.{add-one}
 use native.Mathlib.Omega.{arith}
 use Rattle.marks.specs.Taking.{taken_number}
 use Rattle.lifts.specs.Lifting.{height_in}
 use Rattle.depths.specs.Depths.{depth_by}
-use Rattle.rows.specs.Rows.{RowsAre}
-use Rattle.store.specs.declared.Fault.{Fault}
-use Rattle.store.specs.declared.Verdict.{Verdict}
-use Rattle.store.specs.Checking.{ShaftsAre}
-use Rattle.store.specs.Numbers.{fault_number}
 use Rattle.store.specs.Slots.{held}
 use Rattle.store.proofs.Walked.{ShaftsSoFar, no_shafts, shaft_high, shaft_refused, shaft_taken, shafts_taken}
 use Rattle.store.proofs.accept.check_shafts.Goals as goal
@@ -33,21 +27,20 @@ take_rows-requires c =
     (omega (arith, c.loop-x-test.true, c.requires.m_le_most_shafts.0), omega (arith, c.if-depth_of-rows.false, c.depth_of.ensures, c.requires.m_le_most_shafts.1 c.loop-x.x))
 
 pub returns-in-NoCassette : goal.returns-in-NoCassette
-returns-in-NoCassette c = 
+returns-in-NoCassette c =
     shaft_refused c.loop-x.invariant.2 _ c.loop-x-test.true (fits c.args.heights.now c.args.depths c.loop-x.x c.height_at-rows.ensures c.depth_of.ensures c.if-depth_of-rows.false) (rw (← c.height_at-rows.ensures) c.take_rows.ensures) (ap taken_number c.in-NoCassette.is)
 
 pub returns-in-Twice : goal.returns-in-Twice
-returns-in-Twice c = 
+returns-in-Twice c =
     shaft_refused c.loop-x.invariant.2 _ c.loop-x-test.true (fits c.args.heights.now c.args.depths c.loop-x.x c.height_at-rows.ensures c.depth_of.ensures c.if-depth_of-rows.false) (rw (← c.height_at-rows.ensures) c.take_rows.ensures) (ap taken_number c.in-Twice.is)
 
 pub loop-x-preserved : goal.loop-x-preserved
-loop-x-preserved c =
-    (
-      refl,
-      omega (arith, c.loop-x-test.true),
-      rw add-one
-          (shaft_taken c.loop-x.invariant.2 (fits c.args.heights.now c.args.depths c.loop-x.x c.height_at-rows.ensures c.depth_of.ensures c.if-depth_of-rows.false) (rw (← c.height_at-rows.ensures) c.take_rows.ensures) c.in-Added.is),
-    )
+loop-x-preserved c = (
+  refl,
+  omega (arith, c.loop-x-test.true),
+  rw add-one
+      (shaft_taken c.loop-x.invariant.2 (fits c.args.heights.now c.args.depths c.loop-x.x c.height_at-rows.ensures c.depth_of.ensures c.if-depth_of-rows.false) (rw (← c.height_at-rows.ensures) c.take_rows.ensures) c.in-Added.is),
+)
 
 pub returns : goal.returns
 returns c =

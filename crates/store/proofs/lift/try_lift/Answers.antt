@@ -1,5 +1,4 @@
 -- `try_lift` meets its contract: the lift is judged by the depth and the heights, and made in the store's own arrays where it is allowed.
-use borrow.Author.Rules.{rules}
 use Prim.Native.Nat.{ℕ}
 use mathlib.Core.Path.{◌≡◌, sym, ap, ◌∙◌}
 use Rattle.depths.specs.Depths.{depth_by}
