@@ -1,4 +1,6 @@
 // Following the changer's log (document 02, 9/13): "the store after it, or the first entry that can't be true, counted from 0, with the store before that entry".
+#![tactic(auto)]
+
 ghost use Rattle.store.specs.Accept.{Accepted};
 ghost use Rattle.store.specs.Slots.{held};
 ghost use Rattle.store.specs.Sound.{Shaped};

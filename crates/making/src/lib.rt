@@ -1,4 +1,6 @@
 // The list made, for two stores that can be compared and a goal that can be reached.
+#![tactic(auto)]
+
 ghost use Rattle.std.specs.Prelude.{◌≤◌, ◌<◌, length};
 ghost use Rattle.store.specs.Slots.{list_space};
 ghost use Rattle.reach.specs.Pairs.{Comparable};

@@ -1,5 +1,7 @@
 // The number of document 01, or of document 02, for each answer on one store, 0 where nothing is refused. The definitions
 // are in specs/Numbers.antt of the crate of each answer.
+#![tactic(auto)]
+
 ghost use Rattle.std.specs.Prelude.{◌≡◌};
 ghost use Rattle.lifts.specs.Numbers.{refusal_number};
 ghost use Rattle.store.specs.Numbers.{fault_number, verdict_number, answer_number};

@@ -1,5 +1,5 @@
 -- One row alone keeps the promise for a row, and one verdict: two that do are the same (document 01, "Agreement on the contracts").
-use mathlib.Core.List.{List, [], ◌∷◌}
+use mathlib.Core.List.{List, ◌∷◌}
 use mathlib.Core.Path.{◌≡◌, refl, sym, ap, ◌∙◌}
 use native.Mathlib.Decide.{ℕ_discrete}
 use native.Mathlib.Omega.{arith}

@@ -1,4 +1,6 @@
 // Orders (document 02, 1/13): "a lent row of records that each name a cassette and receive its answer". `answered` does the work for one of them.
+#![tactic(auto)]
+
 ghost use Rattle.store.specs.Slots.{held};
 ghost use Rattle.uncovering.specs.Promises.{Ready};
 ghost use Rattle.orders.specs.Orders.{OrderIs, RowIs, BegunIs, UncoverIs};

@@ -1,4 +1,6 @@
 // The store of some of the shafts alone, numbered from 0 in their order (document 02, 10/13).
+#![tactic(auto)]
+
 ghost use Rattle.std.specs.Prelude.{◌≡◌, suc, ◌/◌, ◌%◌, ◌≤◌, ◌<◌, length, get_or};
 ghost use Rattle.lifts.specs.Lifting.{most_shafts, most_rows, slot_count, shown};
 ghost use Rattle.parts.specs.Parts.{tabulated, part};

@@ -1,5 +1,7 @@
 // Rounds of direct placement: each brings the next row of one shaft of the goal into place, fills the row that was lent for it again, and keeps every row that
 // is in place already; round after round, until the store is the goal.
+#![tactic(auto)]
+
 ghost use Rattle.std.specs.Prelude.{◌+◌, ◌*◌, ◌≤◌, length};
 ghost use Rattle.choices.specs.Choices.{RoundFor};
 ghost use Rattle.turns.specs.Turning.{OnTheWay};

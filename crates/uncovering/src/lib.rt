@@ -1,5 +1,7 @@
 // How deep a cassette is buried (document 02, 1/13): "the fewest lifts after which nothing stands on a named cassette". The store is lent as its
 // heights and its slots, so that no order costs a copy of it.
+#![tactic(auto)]
+
 ghost use Rattle.std.specs.Prelude.{cond, ◌≡◌, ◌+◌, ◌≤◌, ◌<◌, min};
 ghost use Rattle.lifts.specs.Lifting.{most_shafts, most_rows};
 ghost use Rattle.store.specs.Slots.{held};

@@ -1,5 +1,4 @@
 -- `follow` meets its contract: the store's own fault, or the log followed in its arrays.
-use borrow.Author.Rules.{rules}
 use Rattle.store.proofs.Checks.{accepted_none, refused_one}
 use Rattle.logs.proofs.Tracing.{followed_refused}
 use Rattle.logs.proofs.follow.Goals as goal

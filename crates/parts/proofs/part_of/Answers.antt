@@ -1,5 +1,4 @@
 -- `part_of` meets its contract.
-use borrow.Author.Rules.{rules}
 use Rattle.parts.proofs.ByNumber.{renumbered_part}
 use Rattle.parts.proofs.part_of.Goals as goal
 

@@ -1,11 +1,7 @@
 -- `renumbered` meets its contract. The invariant: the places passed have their values.
-use borrow.Author.Rules.{rules}
 use mathlib.Core.Path.{refl}
-use Prim.Native.Nat.{ℕ, ◌-◌}
 use native.Mathlib.Numerals.{add-one}
-use lib.ListN.{get_or}
-use Rattle.lifts.specs.Lifting.{most_shafts}
-use Rattle.parts.proofs.Tabulated.{FilledTo, filled_none, filled_more, filled_all}
+use Rattle.parts.proofs.Tabulated.{filled_none, filled_more, filled_all}
 use Rattle.parts.proofs.renumbered.Goals as goal
 
 pub loop-i-init : goal.loop-i-init

@@ -1,11 +1,8 @@
 -- `renumbered_slots` meets its contract. The invariant: the places passed have their values.
-use borrow.Author.Rules.{rules}
-use mathlib.Core.Path.{refl}
 use Prim.Native.Nat.{ℕ, suc, ◌-◌, ◌/◌, ◌%◌}
-use native.Mathlib.Numerals.{add-one}
 use lib.ListN.{get_or}
 use Rattle.lifts.specs.Lifting.{slot_count, shown}
-use Rattle.parts.proofs.Tabulated.{FilledTo, filled_none, filled_more, filled_all}
+use Rattle.parts.proofs.Tabulated.{FilledTo}
 use Rattle.parts.proofs.renumbered_slots.Given as goal
 
 abbrev pub invariant-loop-p : goal.invariant-loop-p

@@ -1,5 +1,4 @@
 -- `row_at` meets its contract: past the sixteenth shaft the slots have the default, 0.
-use borrow.Author.Rules.{rules}
 use mathlib.Core.Path.{refl, sym}
 use native.Mathlib.Omega.{arith}
 use lib.ListN.{get_or-eq_default}

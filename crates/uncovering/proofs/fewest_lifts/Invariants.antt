@@ -1,13 +1,8 @@
 -- `fewest_lifts` meets its contract. The invariant: the answer so far is the nearest of the shafts passed.
-use borrow.Author.Rules.{rules}
-use mathlib.Core.Path.{◌≡◌, refl}
-use Prim.Native.Nat.{◌+◌, ◌-◌, ◌≤◌}
-use native.Mathlib.Omega.{arith}
+use mathlib.Core.Path.{◌≡◌}
+use Prim.Native.Nat.{◌-◌, ◌≤◌}
 use Rattle.store.specs.Slots.{held}
-use Rattle.store.proofs.Acceptance.{accepted_shaped}
 use Rattle.uncovering.specs.Nearest.{NearestIs}
-use Rattle.uncovering.proofs.Nearest.{nearer_of_both}
-use Rattle.uncovering.proofs.Rule.{by_places}
 use Rattle.uncovering.proofs.fewest_lifts.Given as goal
 
 abbrev pub invariant-loop-x : goal.invariant-loop-x

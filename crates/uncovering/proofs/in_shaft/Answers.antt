@@ -1,5 +1,4 @@
 -- `in_shaft` meets its contract: the highest row that shows the number decides.
-use borrow.Author.Rules.{rules}
 use native.Mathlib.Omega.{arith}
 use Rattle.store.proofs.Acceptance.{accepted_shaped}
 use Rattle.uncovering.proofs.Nearest.{no_place, too_low, nearest_top}

@@ -1,5 +1,4 @@
 -- `nearer` meets its contract, case by case.
-use borrow.Author.Rules.{rules}
 use mathlib.Core.Path.{sym, ap, ap₂, ◌∙◌}
 use Rattle.uncovering.specs.declared.Uncovering.TheVariants.{After}
 use Rattle.uncovering.specs.Nearest.{nearer_of}

@@ -1,11 +1,6 @@
 -- `top_row` meets its contract. The invariant: it is met for the rows looked at.
-use borrow.Author.Rules.{rules}
-use mathlib.Core.Path.{◌≡◌}
 use Prim.Native.Nat.{◌-◌, ◌≤◌}
-use native.Mathlib.Numerals.{add-one}
-use native.Mathlib.Omega.{arith}
 use Rattle.uncovering.specs.Promises.{TopRowIs}
-use Rattle.uncovering.proofs.TopRow.{no_row, row_more}
 use Rattle.uncovering.proofs.top_row.Given as goal
 
 abbrev pub invariant-loop-k : goal.invariant-loop-k
