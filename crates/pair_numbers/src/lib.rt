@@ -1,4 +1,6 @@
 // The number of document 01 for each answer on two stores, 0 where nothing is refused. The definitions are in specs/Numbers.antt of the crate of each answer.
+#![tactic(auto)]
+
 ghost use Rattle.std.specs.Prelude.{◌≡◌};
 ghost use Rattle.pairs.specs.Numbers.{pair_fault_number, pair_number};
 ghost use Rattle.reachable.specs.Numbers.{reach_number};

@@ -1,5 +1,7 @@
 // The list maker (document 01, "Which goals can be reached", "Which comes first", and request 6/13): a list of lifts that leads from start
 // to goal.
+#![tactic(auto)]
+
 ghost use Rattle.plans.specs.Promises.{PlanIs};
 
 use pairs::{Pair, compare};

@@ -37,17 +37,17 @@ module _ (s t : Store) (came : List ℕ) where
   plan_told Pair.Comparable = cond (rule_test s t) (cond (ltb (length came) (list_space s)) PlanAnswer.LittleSpace PlanAnswer.Listed) PlanAnswer.Unreachable
   plan_told (Pair.Refused f) = PlanAnswer.Refused f
 
-  plan_told : (a : PlanAnswer) → PlanSays s t came a → plan_told (pair_told s t) ≡ a
+  plan_told_lem : (a : PlanAnswer) → PlanSays s t came a → plan_told (pair_told s t) ≡ a
   unfolding plan_told
-  plan_told (PlanAnswer.Refused f) e = ap plan_told (pair_told_lem s t (Pair.Refused f) e)
-  plan_told PlanAnswer.Unreachable (p, n) = ap plan_told (pair_told_lem s t Pair.Comparable p) ∙ simp (test_false s t p n)
-  plan_told PlanAnswer.LittleSpace (p, (l, h)) =
+  plan_told_lem (PlanAnswer.Refused f) e = ap plan_told (pair_told_lem s t (Pair.Refused f) e)
+  plan_told_lem PlanAnswer.Unreachable (p, n) = ap plan_told (pair_told_lem s t Pair.Comparable p) ∙ simp (test_false s t p n)
+  plan_told_lem PlanAnswer.LittleSpace (p, (l, h)) =
       ap plan_told (pair_told_lem s t Pair.Comparable p) ∙ simp (test_true s t p l, lt-ltb (length came) (list_space s) h)
-  plan_told PlanAnswer.Listed (p, (l, h)) =
+  plan_told_lem PlanAnswer.Listed (p, (l, h)) =
       ap plan_told (pair_told_lem s t Pair.Comparable p) ∙ simp (test_true s t p l, le-ltb (length came) (list_space s) h)
 
   pub one_plan : (a b : PlanAnswer) → PlanSays s t came a → PlanSays s t came b → a ≡ b
-  one_plan a b p q = sym (plan_told a p) ∙ plan_told b q
+  one_plan a b p q = sym (plan_told_lem a p) ∙ plan_told_lem b q
 
   -- its number is the first that applies
   pub plan_numbered : (a : PlanAnswer) → PlanSays s t came a → plan_number a ≡ plan_fault s t (length came)

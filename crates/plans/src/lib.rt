@@ -1,5 +1,7 @@
 // A plan: how the list maker answers (document 01, "Which comes first", and request 6/13), and what is planned for two stores that can be
 // compared.
+#![tactic(auto)]
+
 ghost use Rattle.std.specs.Prelude.{◌≡◌, ◌<◌};
 ghost use Rattle.stacks.specs.Deciding.{Decides};
 ghost use Rattle.store.specs.Accept.{Accepted};
