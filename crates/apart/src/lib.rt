@@ -1,5 +1,7 @@
 // Whether a goal can be reached without a lift between the sets of a row (document 02, 10/13), for two stores that can be compared: every shaft of no set is
 // the same, and each set can be reached within itself.
+#![tactic(auto)]
+
 ghost use Rattle.std.specs.Prelude.{◌≡◌, ℕ, ◌<◌, length, get_or};
 ghost use Rattle.stacks.specs.Deciding.{Decides};
 ghost use Rattle.lifts.specs.Lifting.{most_shafts};

@@ -1,4 +1,6 @@
 // The C call that writes the store of an image in the form named (document 02, 8/13).
+#![tactic(auto)]
+
 ghost use Rattle.convert_call.specs.ConvertCall.{ConvertCallIs};
 
 use calls::{answer, read_one, refused};

@@ -1,4 +1,6 @@
 // The C call that follows a log on the store of an image (document 02, 9/13).
+#![tactic(auto)]
+
 ghost use Rattle.follow_call.specs.FollowCall.{FollowCallIs};
 
 use calls::{answer, read_lent, refused};

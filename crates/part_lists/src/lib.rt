@@ -1,4 +1,6 @@
 // The list made set by set (document 02, 10/13): for the shafts of each set as a store of their own, and written with the store's own shafts.
+#![tactic(auto)]
+
 ghost use Rattle.std.specs.Prelude.{map, ◌++◌, ◌≡◌, ◌≤◌, length, take, drop};
 ghost use Rattle.store.specs.Lists.{Reachable};
 ghost use Rattle.store.specs.Slots.{list_space};

@@ -1,4 +1,6 @@
 // The C call that plays a list on the store of an image.
+#![tactic(auto)]
+
 ghost use Rattle.replay_call.specs.ReplayCall.{ReplayCallIs};
 
 use calls::{answer, read_lent, refused};

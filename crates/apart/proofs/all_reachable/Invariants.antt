@@ -1,11 +1,6 @@
 -- `all_reachable` meets its contract. The invariant: the sets passed can be reached within themselves.
-use borrow.Author.Count.{below_none, below_more}
-use borrow.Author.Rules.{rules}
-use borrow.Author.Tests.{not-true, not-false}
 use Prim.Native.Nat.{ℕ, ◌-◌, ◌≤◌, ◌<◌}
-use native.Mathlib.Omega.{arith}
 use lib.ListN.{length, get_or}
-use Rattle.stacks.proofs.Deciding.{holds, fails}
 use Rattle.store.specs.Lists.{Reachable}
 use Rattle.parts.specs.Parts.{part}
 use Rattle.apart.proofs.all_reachable.Given as goal

@@ -1,5 +1,4 @@
 -- `in_or_same` meets its contract.
-use borrow.Author.Rules.{rules}
 use mathlib.Core.Path.{sym, ◌∙◌}
 use Rattle.stacks.proofs.Deciding.{holds, decides_as}
 use Rattle.apart.proofs.in_or_same.Goals as goal

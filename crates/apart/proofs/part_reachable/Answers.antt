@@ -1,5 +1,4 @@
 -- `part_reachable` meets its contract: no shaft, other cassettes, or the rule for the shafts of the set.
-use borrow.Author.Rules.{rules}
 use mathlib.Core.Path.{sym, ap, ◌∙◌, subst₂}
 use Rattle.stacks.specs.Deciding.{Decides}
 use Rattle.stacks.proofs.Deciding.{holds, fails}

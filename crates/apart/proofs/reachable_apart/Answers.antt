@@ -1,6 +1,4 @@
 -- `reachable_apart` meets its contract, by the theorem on groups.
-use borrow.Author.Rules.{rules}
-use borrow.Author.Tests.{not-true, not-false}
 use Rattle.stacks.proofs.Deciding.{fails, decides_as}
 use Rattle.store.proofs.Acceptance.{accepted_shaped}
 use Rattle.within.proofs.Groups.{apart_exactly}

@@ -1,13 +1,8 @@
 -- `same_elsewhere` meets its contract. The invariant: the shafts passed are in some set, or the same.
 use borrow.Author.Count.{below_none, below_more}
-use borrow.Author.Rules.{rules}
-use borrow.Author.Tests.{not-true, not-false}
-use mathlib.Core.Path.{◌≡◌, refl}
-use Prim.Native.Nat.{ℕ, ◌-◌, ◌≤◌, ◌<◌}
+use mathlib.Core.Path.{refl}
 use native.Mathlib.Omega.{arith}
 use Rattle.stacks.proofs.Deciding.{holds, fails}
-use Rattle.store.specs.Slots.{stack}
-use Rattle.sets.specs.Sets.{times_in}
 use Rattle.apart.proofs.same_elsewhere.Goals as goal
 
 pub loop-x-init : goal.loop-x-init

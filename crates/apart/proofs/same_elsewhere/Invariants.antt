@@ -1,11 +1,6 @@
 -- `same_elsewhere` meets its contract. The invariant: the shafts passed are in some set, or the same.
-use borrow.Author.Count.{below_none, below_more}
-use borrow.Author.Rules.{rules}
-use borrow.Author.Tests.{not-true, not-false}
-use mathlib.Core.Path.{◌≡◌, refl}
+use mathlib.Core.Path.{◌≡◌}
 use Prim.Native.Nat.{ℕ, ◌-◌, ◌≤◌, ◌<◌}
-use native.Mathlib.Omega.{arith}
-use Rattle.stacks.proofs.Deciding.{holds, fails}
 use Rattle.store.specs.Slots.{stack}
 use Rattle.sets.specs.Sets.{times_in}
 use Rattle.apart.proofs.same_elsewhere.Given as goal

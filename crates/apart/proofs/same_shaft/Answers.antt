@@ -1,5 +1,4 @@
 -- `same_shaft` meets its contract: the heights, then the rows.
-use borrow.Author.Rules.{rules}
 use native.Mathlib.Omega.{arith}
 use Rattle.stacks.proofs.Deciding.{fails}
 use Rattle.apart.proofs.ApartLaws.{heights_differ, rows_decide}

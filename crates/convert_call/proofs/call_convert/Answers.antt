@@ -1,5 +1,4 @@
 -- `call_convert` meets its contract: the image's fault, or what writing its store gave.
-use borrow.Author.Rules.{rules}
 use mathlib.Core.Path.{sym, ◌∙◌}
 use Rattle.convert_call.proofs.ConvertAnswers.{convert_refused, convert_answered}
 use Rattle.convert_call.proofs.call_convert.Goals as goal

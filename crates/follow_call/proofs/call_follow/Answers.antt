@@ -1,5 +1,4 @@
 -- `call_follow` meets its contract: the image's fault or 10, or the log's answer and the image of the store reached.
-use borrow.Author.Rules.{rules}
 use native.Mathlib.Omega.{arith}
 use Rattle.calls.proofs.HandedBack.{back_refused}
 use Rattle.follow_call.proofs.FollowAnswers.{follow_answered}
