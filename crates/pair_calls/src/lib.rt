@@ -1,4 +1,6 @@
 // The C calls on two images: the yes or no, and the plan.
+#![tactic(auto)]
+
 ghost use Rattle.pair_calls.specs.PairCalls.{ReachCallIs, PlanCallIs};
 
 use calls::{answer, read_both, refused};
