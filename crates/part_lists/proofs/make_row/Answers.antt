@@ -3,7 +3,7 @@ use native.Mathlib.Numerals.{add-one}
 use native.Mathlib.Omega.{arith}
 use lib.ListN.{length-drop, length-take}
 use Rattle.store.proofs.Space.{list_space_most}
-use Rattle.part_lists.proofs.RowLists.{none_yet, sized_yet, next_most, next_room, one_more, all_made}
+use Rattle.part_lists.proofs.RowLists.{none_yet, next_most, next_room, one_more, all_made}
 use Rattle.part_lists.proofs.make_row.Goals as goal
 
 pub loop-i-init : goal.loop-i-init
@@ -44,11 +44,6 @@ loop-i-preserved c =
     let l = c.loop-i in
     let h = c.loop-i-test.true in
     (omega (arith, h), rw add-one (one_more _ _ p.comparable _ p.disjoint _ p.start_in_bounds l.invariant.1 h c.make_part-count.ensures))
-
-pub shape_of-out : goal.shape_of-out
-shape_of-out c =
-    let p = c.requires in
-    sized_yet _ _ p.comparable _ p.disjoint _ p.start_in_bounds c.loop-i.invariant.1
 
 pub returns : goal.returns
 returns c =
