@@ -1,5 +1,7 @@
 // The calls for the controller's C program, on byte slices (document 01, "calls for the controller's C program on numbers and byte
 // slices") and on a row of orders (document 02, 1/13); the header is include/halyardgage.h. Each returns count × 256 + number.
+#![tactic(auto)]
+
 ghost use Rattle.std.specs.Prelude.{◌≡◌};
 ghost use Rattle.calls.specs.Shared.{read_fault};
 ghost use Rattle.convert_call.specs.ConvertCall.{ConvertCallIs};
