@@ -37,7 +37,7 @@
  * halyard_convert takes its number, and halyard_replay and halyard_follow write
  * in the form of the image given. A store has one image in each form that can
  * hold it, which reads as that store, and an accepted image is the image of its
- * store in the form that it names. (Proved: image-read and read-image, in
+ * store in the form that it names. (Proved: image_read and read_image_lem, in
  * crates/image/proofs/RoundTrip.antt.)
  *
  * LISTS. A list is bytes, one for each lift: the shaft left in the high four
@@ -186,7 +186,7 @@ struct halyard_order {
 
 /* The bytes of an image in form 0, 1 or 2, of m shafts with n cassettes, blanks
  * included, and the most that an image has: 16 shafts of depth 16, full, in
- * form 2. (Proved: length-image and longest, in
+ * form 2. (Proved: length_image and longest, in
  * crates/image/proofs/Lengths.antt.) */
 #define HALYARD_IMAGE_LENGTH(form, m, n)                              \
     ((8 + 4 * ((form) == 0 ? (size_t)1 : (size_t)(m)) +               \
@@ -197,7 +197,7 @@ struct halyard_order {
 /* The list space that halyard_plan() asks for, in bytes, where the deepest
  * shaft has depth h and there are n cassettes, blanks included, and the most
  * that it ever asks for.
- * (Proved: list-space-most, in crates/store/proofs/Space.antt.) */
+ * (Proved: list_space_most, in crates/store/proofs/Space.antt.) */
 #define HALYARD_LIST_SPACE(h, n) \
     (4 * (size_t)(h) * (size_t)(n) + 8 * (size_t)(n))
 #define HALYARD_LIST_MAX 18432
@@ -292,7 +292,7 @@ uint64_t halyard_reachable(const uint8_t *start, size_t start_len,
  * HALYARD_UNREACHABLE does not depend on list_len, which may be 0: no list of
  * lifts leads to the goal, however much is lent. HALYARD_SPACE says that one
  * does: the same call with HALYARD_LIST_SPACE(h, n) bytes gives a list.
- * (Proved: fifteen-stays and space-cures, in
+ * (Proved: fifteen_stays and space_cures, in
  * crates/pair_calls/proofs/CallExact.antt.)
  */
 uint64_t halyard_plan(const uint8_t *start, size_t start_len,
@@ -305,7 +305,7 @@ uint64_t halyard_plan(const uint8_t *start, size_t start_len,
  *
  * Reads image and list. The store reached is written in the form of image, so
  * that what is written has image_len bytes, and out_len must be at least
- * image_len. (Proved: replay-as-long, in
+ * image_len. (Proved: replay_as_long, in
  * crates/replay_call/proofs/ReplayAnswers.antt.)
  * Returns HALYARD_OK and list_len as the count where every lift was done. Where
  * one could not be done, returns its number, 11, 13 or 14, and the count of
@@ -325,7 +325,7 @@ uint64_t halyard_replay(const uint8_t *image, size_t image_len,
  *
  * Reads image and log; log_len is a count of bytes. The store is written in the
  * form of image, so that what is written has image_len bytes, and out_len must
- * be at least image_len. (Proved: follow-as-long, in
+ * be at least image_len. (Proved: follow_as_long, in
  * crates/follow_call/proofs/FollowAnswers.antt.)
  * Returns HALYARD_OK and the count of entries, log_len / 3, where every entry
  * is true. What is written is then the store after the log.
@@ -342,10 +342,10 @@ uint64_t halyard_replay(const uint8_t *image, size_t image_len,
  *     cassette of the shaft, or 0 where it is empty.
  * So a log gives HALYARD_OK exactly if nothing in it is HALYARD_LOG_MALFORMED,
  * every lift is legal and each number is the one that the store shows. (Proved:
- * accepted-true and true-accepted, in crates/logs/proofs/Whole.antt.)
+ * accepted_true and true_accepted, in crates/logs/proofs/Whole.antt.)
  * Where log_len is no multiple of 3, no entry is looked at: returns
  * HALYARD_LOG_MALFORMED and count 0. What is written is then the store as it
- * came, the bytes of image. (Proved: wrong-length-own, in
+ * came, the bytes of image. (Proved: wrong_length_own, in
  * crates/follow_call/proofs/FollowAnswers.antt.)
  * In all these cases the first image_len bytes of out are written, and the rest
  * stay as they came.
@@ -364,7 +364,7 @@ uint64_t halyard_follow(const uint8_t *image, size_t image_len,
  * Returns HALYARD_OK and as the count the bytes of the image written; that many
  * of the first bytes of out are then the image, and the rest stay as they came.
  * In the form that image has, they are its own bytes, and what was converted to
- * another form and back is too. (Proved: converted-own and converted-back, in
+ * another form and back is too. (Proved: converted_own and converted_back, in
  * crates/convert_call/proofs/Converted.antt.)
  * Otherwise it writes nothing and returns, with count 0, the first fault of
  * reading, 1 to 5 or 7, or HALYARD_FORM where the form named is above 2, or
