@@ -9,7 +9,8 @@ use Rattle.store.specs.Lists.{Leads}
 use Rattle.reach.specs.Pairs.{Comparable}
 use Rattle.sets.specs.Sets.{times_in}
 use Rattle.within.specs.Bounds.{Bounds, whole, within, groups, apart, Fitting, Can, Keeps}
-use Rattle.within.proofs.Groups.{turn_apart, sorted_by_group, Sorted, turn_sorted}
+use Rattle.within.proofs.Groups.{sorted_by_group}
+use Rattle.within.proofs.Turns.{turn_apart, Sorted, turn_sorted}
 use Rattle.within.proofs.RowTimes.{division_disjoint}
 
 pub kept_allowed : (b : Bounds) {s t : Store} {lifts : List ℕ} → Leads s lifts t → Keeps b lifts → Can b s t

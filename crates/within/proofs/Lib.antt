@@ -1,7 +1,12 @@
+pub mod AllOpen
 pub mod Allowed
 pub mod Groups
 pub mod Lists
+pub mod OneSet
 pub mod PartLifts
 pub mod Parted
 pub mod RowTimes
 pub mod Rows
+pub mod RuleAllOpen
+pub mod RuleExactly
+pub mod Turns

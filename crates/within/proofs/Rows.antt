@@ -1,7 +1,7 @@
 -- The heart of planning by groups: a list without a lift between groups has a list of each group in it, and lists of the groups, one after the other, lead to
 -- the goal. So it is reachable exactly if each group is reachable within itself.
 use mathlib.Core.Bool.{true}
-use mathlib.Core.List.{List, [], ◌∷◌, ◌++◌, map, append-nil, append_assoc}
+use mathlib.Core.List.{List, [], ◌∷◌, ◌++◌, map}
 use mathlib.Core.Path.{◌≡◌, refl, sym, ap, ◌∙◌, subst}
 use Prim.Native.Nat.{ℕ, ◌+◌, ◌<◌}
 use native.Mathlib.Decide.{ℕ_discrete, dec_lt}
@@ -25,9 +25,10 @@ use Rattle.sets.proofs.SetLaws.{by_test, shaft_placed, placed_shaft}
 use Rattle.parts.specs.Parts.{part}
 use Rattle.parts.specs.PartOf.{named, outward, PartOf}
 use Rattle.parts.proofs.PartLaws.{part_is_lem, part_alone, none_named}
-use Rattle.within.specs.Within.{Each, none, more, Inside, ReachableApart, InTurn, next}
+use Rattle.within.specs.Within.{Each, none, more, ReachableApart, InTurn}
 use Rattle.within.specs.Rules.{SameElsewhere, EachReachable}
 use Rattle.within.proofs.Lists.{each_so, inner, outer}
+use Rattle.within.proofs.Turns.{turn_more}
 use Rattle.within.proofs.RowTimes.{in_one, in_few, in_below, in_one_together}
 
 -- a list none of whose lifts touches a shaft leaves it as it is
@@ -77,12 +78,6 @@ arrived_none t p = record {
   turn = none;
   mixed = record { shaped = p; frame = record { shafts = refl; depths = refl }; done = λ x h. absurd (omega arith); left = λ x h. refl };
 }
-
--- the lifts of one set more
-turn_more : {row ls own : List ℕ} (g : ℕ) → InTurn row ls → Each (Inside g) own → InTurn (row ++ (g ∷ [])) (ls ++ own)
-turn_more {own = own} g none k = subst (InTurn _) (append-nil own) (next k none)
-turn_more {own = own} g (next {group} {groups} {own = first} {rest} e l) k =
-    subst (InTurn (group ∷ (groups ++ (g ∷ [])))) (sym (append_assoc first rest own)) (next e (turn_more g l k))
 
 module _ {row : List ℕ} {s t u : Store} {lifts : List ℕ} (g : ℕ) (p : Comparable s t) (d : Disjoint s.m (row ++ (g ∷ []))) (a : Arrived row s t u lifts) where
   s_shaped : Shaped s
