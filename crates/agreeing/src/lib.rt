@@ -10,6 +10,7 @@ ghost use Rattle.agreeing.specs.Agreeing.{AgreeIs, AgreeingIs, Finished, wanted_
 use lifts::{Heights, Shaft, Slots};
 use marks::Cassette;
 use rooms::Frame;
+use store::Store;
 
 // How many rows of shaft x agree from the bottom, of those up to `most`.
 fn agreeing_rows(slots: &Slots, goal: &Slots, x: Shaft, most: u8) -> u8
@@ -17,58 +18,43 @@ fn agreeing_rows(slots: &Slots, goal: &Slots, x: Shaft, most: u8) -> u8
     ensures { AgreeIs slots.now goal.now x.0 most result }
 {
     let i = x.0 as usize;
-    let mut k: u8 = 0;
-    while k < most {
+    for k in 0..most {
         let p = 16 * i + k as usize;
         if slots[p] != goal[p] {
             return k;
         }
-        k += 1;
     }
-    k
+    most
 }
 
 // How many rows of each shaft agree, of those that both stores have.
-pub fn agreeing(f: Frame, heights: Heights, slots: &Slots, tops: Heights, goal: &Slots) -> Heights
-    requires fits { Fits f heights }
-    requires fits_2 { Fits f tops }
-    ensures { AgreeingIs f heights slots.now tops goal.now result }
+pub fn agreeing(f: Frame, start: &Store, goal: &Store) -> Heights
+    requires fits { Fits f start.now.heights }
+    requires fits_2 { Fits f goal.now.heights }
+    ensures { AgreeingIs f start.now.heights start.now.slots goal.now.heights goal.now.slots result }
 {
     let mut done: Heights = [0; 16];
-    let mut x: u8 = 0;
-    while x < f.m {
+    for x in 0..f.m {
         let i = x as usize;
-        let a = heights[i];
-        let b = tops[i];
-        let most = if a < b { a } else { b };
-        done[i] = agreeing_rows(slots, goal, Shaft(x), most);
-        x += 1;
+        let most = start.heights[i].min(goal.heights[i]);
+        done[i] = agreeing_rows(&start.slots, &goal.slots, Shaft(x), most);
     }
     done
 }
 
 // Whether every row of the goal is passed.
-pub fn finished(f: Frame, tops: Heights, done: &Heights) -> bool
+pub fn finished(f: Frame, goal: &Store, done: &Heights) -> bool
     requires { f.m ≤ 16 }
-    ensures { Decides result (Finished f tops done.now) }
+    ensures { Decides result (Finished f goal.now.heights done.now) }
 {
-    let mut x: usize = 0;
-    let m = f.m as usize;
-    while x < m {
-        if done[x] < tops[x] {
-            return false;
-        }
-        x += 1;
-    }
-    true
+    (0..f.m as usize).all(|x| goal.heights[x] <= done[x])
 }
 
 // The cassette that the goal has above the rows of a shaft that are passed.
-pub fn next(goal: &Slots, done: &Heights, x: Shaft) -> Cassette
+pub fn next(goal: &Store, done: &Heights, x: Shaft) -> Cassette
     requires { (x.0 < 16) × (height_in done.now x.0 < 16) }
-    ensures { result ≡ wanted_in goal.now done.now x.0 }
+    ensures { result ≡ wanted_in goal.now.slots done.now x.0 }
 {
     let i = x.0 as usize;
-    let k = done[i] as usize;
-    goal[16 * i + k]
+    goal.slots[16 * i + done[i] as usize]
 }

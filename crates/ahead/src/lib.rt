@@ -41,10 +41,7 @@ fn tight(n: Ahead) -> bool
     requires cover_bound { (n.cover < 256) × (n.load < 256) }
     ensures { TightIs n result }
 {
-    if 1 < n.outside {
-        return false;
-    }
-    1 < n.cover + n.load
+    n.outside <= 1 && 1 < n.cover + n.load
 }
 
 // The next lift. Where `start` lets the search for a shaft outside begin is free.
@@ -73,14 +70,11 @@ pub fn follow(at: Spot, cover: usize, t: Lift, high: u8) -> Spot
     requires { high < 16 }
     ensures { FollowIs at cover t high result }
 {
-    if cover == 0 {
-        if t.from.0 == at.shaft.0 {
-            let shaft = t.to;
-            return Spot {
-                shaft,
-                row: Row(high + 1),
-            };
-        }
+    if cover == 0 && t.from.0 == at.shaft.0 {
+        return Spot {
+            shaft: t.to,
+            row: Row(high + 1),
+        };
     }
     at
 }

@@ -15,11 +15,8 @@ use Rattle.store.proofs.Rows.{stack_length}
 use Rattle.reach.specs.Pairs.{Comparable}
 use Rattle.reach.proofs.Agree.{upward_reversed}
 use Rattle.pairs.specs.declared.PairFault.{PairFault}
-use Rattle.pairs.specs.declared.Pair.{Pair}
-use Rattle.pairs.specs.declared.Compared.{Compared}
-use Rattle.pairs.specs.Promises.{Faulty, CompareIs}
-use Rattle.pairs.proofs.Answers.{faulty_by}
-use Rattle.pairs.proofs.PairExact.{one_pair}
+use Rattle.pairs.specs.Promises.{Faulty}
+use Rattle.pairs.proofs.PairExact.{not_both}
 use Rattle.parts.specs.Parts.{part}
 use Rattle.within.proofs.Parted.{part_comparable, none_same, part_cassettes}
 
@@ -45,16 +42,8 @@ module _ (some : ℕ) (s t : Store) (p : Comparable s t) where
   -- parts that can't be compared can't be reached
   part_faulty : ((part some s).m ≡ 0 → ⊥) → (f : PairFault) → Faulty (part some s) (part some t) f → Reachable (part some s) (part some t) → ⊥
   part_faulty n f e r =
-      two_pairs f (one_pair (part some s) (part some t) Pair.Comparable (Pair.Refused f) (part_comparable some s t p (omega arith) (part_cassettes some s t p r)) e)
-    where
-      refused_or : Pair → ℕ
-      refused_or Pair.Comparable = 0
-      refused_or (Pair.Refused f) = 1
+      not_both (part some s) (part some t) f e (part_comparable some s t p (omega arith) (part_cassettes some s t p r))
 
-      two_pairs : (f : PairFault) → Pair.Comparable ≡ Pair.Refused f → ⊥
-      two_pairs f q = let z : ◌≡◌ {A = ℕ} 0 1 = ap refused_or q in omega arith
-
-  pub part_refused : {u v : Store} {r : Compared} {f : PairFault} → u ≡ part some s → v ≡ part some t → (u.m ≡ 0 → ⊥) → CompareIs u v r → r.pair ≡ Pair.Refused f
-      → Reachable (part some s) (part some t) → ⊥
-  part_refused {u} {v} {r} {f} a b n k e =
-      part_faulty (λ z. n (ap (λ (w : Store). w.m) a ∙ z)) f (subst₂ (λ (w z : Store). Faulty w z f) a b (faulty_by u v f r k e))
+  pub part_refused : {u v : Store} (f : PairFault) → u ≡ part some s → v ≡ part some t → (u.m ≡ 0 → ⊥) → Faulty u v f → Reachable (part some s) (part some t) → ⊥
+  part_refused {u} {v} f a b n e =
+      part_faulty (λ z. n (ap (λ (w : Store). w.m) a ∙ z)) f (subst₂ (λ (w z : Store). Faulty w z f) a b e)

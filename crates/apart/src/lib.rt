@@ -14,7 +14,7 @@ ghost use Rattle.parts.specs.Parts.{part};
 ghost use Rattle.within.specs.Within.{ReachableApart};
 ghost use Rattle.within.specs.Rules.{SameElsewhere, AllReachable};
 
-use pairs::{Pair, compare};
+use pairs::compare;
 use parts::part_of;
 use rules::{rule_holds, same_rows};
 use sets::times_in;
@@ -53,12 +53,10 @@ fn same_elsewhere(start: Store, goal: Store, row: &[u16]) -> bool
     ensures { Decides result (SameElsewhere row.now start goal) }
 {
     let shafts = start.m as usize;
-    let mut x: usize = 0;
-    while x < shafts {
+    for x in 0..shafts {
         if !in_or_same(start, goal, row, x) {
             return false;
         }
-        x += 1;
     }
     true
 }
@@ -73,12 +71,10 @@ fn part_reachable(start: Store, goal: Store, some: u16) -> bool
         return true;
     }
     let b = part_of(goal, some);
-    let compared = compare(a, b);
-    let pair = compared.pair;
-    if let Pair::Refused(f) = pair {
-        return false;
+    match compare(a, b) {
+        Ok(n) => rule_holds(a, b, n),
+        Err(_) => false,
     }
-    rule_holds(a, b, compared.n)
 }
 
 // Whether those of each set of a row can.
@@ -86,14 +82,7 @@ fn all_reachable(start: Store, goal: Store, row: &[u16]) -> bool
     requires { Comparable start goal }
     ensures { Decides result (AllReachable row.now start goal) }
 {
-    let mut i: usize = 0;
-    while i < row.len() {
-        if !part_reachable(start, goal, row[i]) {
-            return false;
-        }
-        i += 1;
-    }
-    true
+    row.iter().all(|some| part_reachable(start, goal, *some))
 }
 
 // Whether some list without a lift between the sets of a row leads from start to goal.

@@ -1,7 +1,5 @@
 -- Packed fields (document 01, "The image": "Fields are packed most significant bit first, with no gaps"), for every width.
-use Rattle.std.specs.Prelude.{Bool, true, false, List, [], ◌∷◌, ◌++◌, ℕ, zero, suc, ◌+◌, ◌*◌, ◌/◌, ◌%◌, length, get_or, drop, leb, eqb}
-use Rattle.bits.specs.declared.Field.{Field}
-use Rattle.bits.specs.declared.Field.TheVariants.{Value, Missing}
+use Rattle.std.specs.Prelude.{Bool, true, false, cond, Option, Some, None, List, [], ◌∷◌, ◌++◌, ℕ, zero, suc, ◌+◌, ◌*◌, ◌/◌, ◌%◌, length, get_or, drop, leb, eqb}
 
 abbrev pub digit : Bool → ℕ
 digit false = 0
@@ -42,11 +40,7 @@ bytes_of (suc k) l = field l 8 ∷ bytes_of k (drop 8 l)
 abbrev pub byte_count : ℕ → ℕ
 byte_count n = (n + 7) / 8
 
-abbrev pub pick : Bool → Field → Field → Field
-pick true a b = a
-pick false a b = b
-
--- the next field of w bits: its value, or that the bits end before it does
-unfoldable pub next_field : List Bool → ℕ → Field
+-- the next field of w bits: its value, or none where the bits end before it does
+unfoldable pub next_field : List Bool → ℕ → Option ℕ
 unfolding field
-next_field l w = pick (leb w (length l)) (Value (field l w)) Missing
+next_field l w = cond (leb w (length l)) (Some (field l w)) None

@@ -12,21 +12,11 @@ pub struct Reader<'a> {
     pub at: usize,
 }
 
-// The next field, or that the bytes end before it does.
-#[derive(Clone, Copy)]
-pub enum Field {
-    Value(u16),
-    Missing,
-}
-
 // A byte of s; past the end it counts as 0.
 fn byte_at(s: &[u8], i: usize) -> u8
     ensures { result ≡ get_or s.now i 0 }
 {
-    if i < s.len() {
-        return s[i];
-    }
-    0
+    s.get(i).copied().unwrap_or(0)
 }
 
 // Three bytes as one number.
@@ -55,37 +45,39 @@ fn cut(v: u32, start: usize, w: usize) -> u32
     (v << (8 + start)) >> (32 - w)
 }
 
-// The field of w bits at bit position at.
-pub fn field_at(s: &[u8], at: usize, w: usize) -> Field
+// The field of w bits at bit position at, or none where the bytes end before it does.
+pub fn field_at(s: &[u8], at: usize, w: usize) -> Option<u16>
     requires { (0 < w) × (w ≤ 16) }
     ensures { result ≡ next_field (drop at (bits_of s.now)) w }
 {
     let byte = at / 8;
     let start = at % 8;
     if s.len() < byte + (start + w + 7) / 8 {
-        return Field::Missing;
+        return None;
     }
-    Field::Value(cut(three_bytes(s, byte), start, w) as u16)
+    Some(cut(three_bytes(s, byte), start, w) as u16)
 }
 
-pub fn new<'a>(src: &'a [u8], at: usize) -> Reader<'a>
-    ensures { (result.src ≡ src.entry) × (result.at ≡ at) }
-{
-    Reader { src, at }
-}
+impl<'a> Reader<'a> {
+    pub fn new(src: &'a [u8], at: usize) -> Reader<'a>
+        ensures { (result.src ≡ src.entry) × (result.at ≡ at) }
+    {
+        Reader { src, at }
+    }
 
-// "The reader takes the next field of 4, 5 or 8 bits", or of 12 (request 8/13)
-pub fn next<'a>(r: Reader<'a>, w: usize) -> Field
-    requires { (0 < w) × (w ≤ 16) }
-    ensures { result ≡ next_field (drop r.entry.at (bits_of r.entry.src.now)) w }
-{
-    field_at(r.src, r.at, w)
+    // "The reader takes the next field of 4, 5 or 8 bits", or of 12 (request 8/13)
+    pub fn next(self, w: usize) -> Option<u16>
+        requires { (0 < w) × (w ≤ 16) }
+        ensures { result ≡ next_field (drop self.entry.at (bits_of self.entry.src.now)) w }
+    {
+        field_at(self.src, self.at, w)
+    }
 }
 
 // The next field of bytes and a bit position: what everyone else calls.
-pub fn read_field(s: &[u8], at: usize, w: usize) -> Field
+pub fn read_field(s: &[u8], at: usize, w: usize) -> Option<u16>
     requires { (0 < w) × (w ≤ 16) }
     ensures { result ≡ next_field (drop at (bits_of s.now)) w }
 {
-    next(new(s, at), w)
+    Reader::new(s, at).next(w)
 }

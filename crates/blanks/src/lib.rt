@@ -20,10 +20,8 @@ fn blanks_in(slots: &Slots, x: usize, rows: usize) -> usize
     ensures most { result ≤ rows }
 {
     let mut n: usize = 0;
-    let mut k: usize = 0;
-    while k < rows {
+    for k in 0..rows {
         n += is_blank(slot_at(slots, 16 * x + k)) as usize;
-        k += 1;
     }
     n
 }
@@ -36,10 +34,8 @@ pub fn blanks_of(s: Store) -> usize
     let heights = s.heights;
     let slots = s.slots;
     let mut n: usize = 0;
-    let mut x: usize = 0;
-    while x < s.m as usize {
+    for x in 0..s.m as usize {
         n += blanks_in(&slots, x, height_at(&heights, x) as usize);
-        x += 1;
     }
     n
 }

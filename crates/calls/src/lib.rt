@@ -2,10 +2,12 @@
 #![tactic(auto)]
 
 ghost use Rattle.std.specs.Prelude.{◌≡◌};
-ghost use Rattle.calls.specs.HandedBack.{LentIs};
-ghost use Rattle.calls.specs.Shared.{answer_of, RefusedCall, OneIs, BothAre};
+ghost use Rattle.marks.specs.Taking.{result_number};
+ghost use Rattle.calls.specs.HandedBack.{lent_number, LentIs};
+ghost use Rattle.calls.specs.Shared.{answer_of, count_in, RefusedCall, OneIs, BothAre};
 
-use numbers::read_number;
+use image::{Read, ReadFault};
+use numbers::Numbered;
 use reading::read;
 use store::Store;
 
@@ -16,6 +18,16 @@ pub fn answer(count: usize, number: u8) -> u64
     (count as u64) % 72057594037927936 * 256 + (number as u64)
 }
 
+// The answer of a call that gives a count, or is refused.
+pub fn answered<E: Numbered>(r: Result<usize, E>) -> u64
+    ensures { result ≡ answer_of (count_in r) (result_number E.number r) }
+{
+    match r {
+        Ok(count) => answer(count, 0),
+        Err(f) => answer(0, f.number()),
+    }
+}
+
 // A refused call on lent bytes: the number alone, and the bytes as they came.
 pub fn refused(number: u8, out: &mut [u8]) -> u64
     ensures { RefusedCall number out.old out.new result }
@@ -23,44 +35,67 @@ pub fn refused(number: u8, out: &mut [u8]) -> u64
     number as u64
 }
 
-// An image that was read: the number that refuses it, 0 for none, and its store, the empty one of one shaft of depth 1 where it is refused.
-#[derive(Clone, Copy)]
-pub struct One {
-    pub number: u8,
-    pub store: Store,
-}
-
-pub fn read_one(image: &[u8]) -> One
+// An image read for a call.
+pub fn read_one(image: &[u8]) -> Read
     ensures { OneIs image.now result }
 {
-    let one = read(image);
-    let verdict = one.answer;
-    let store = one.store;
-    One {
-        number: read_number(verdict),
-        store,
+    read(image)
+}
+
+// Why an image is not read for a call that hands a store back: a fault of reading, or 10.
+#[derive(Clone, Copy)]
+pub enum LentFault {
+    Unread(ReadFault),
+    NoRoom,
+}
+
+impl Numbered for LentFault {
+    ghost number = { lent_number };
+
+    fn number(self) -> u8 {
+        match self {
+            LentFault::Unread(f) => f.number(),
+            LentFault::NoRoom => 10,
+        }
     }
 }
 
-// An image read for a call that hands a store back in its form: 10 besides, where fewer bytes are lent than it has.
-pub fn read_lent(image: &[u8], lent: usize) -> One
+// An image read for a call that hands a store back in its form: whether it is, or else why not, and its store, the empty one of one shaft of depth 1 where
+// the image is refused.
+#[derive(Clone, Copy)]
+pub struct Lent {
+    pub answer: Result<(), LentFault>,
+    pub store: Store,
+}
+
+// An image read, and 10 besides, where fewer bytes are lent than it has.
+pub fn read_lent(image: &[u8], lent: usize) -> Lent
     ensures { LentIs image.now lent result }
 {
     let one = read_one(image);
     let store = one.store;
-    if one.number != 0 {
-        return one;
+    if let Err(f) = one.answer {
+        return Lent {
+            answer: Err(LentFault::Unread(f)),
+            store,
+        };
     }
     if lent < image.len() {
-        return One { number: 10, store };
+        return Lent {
+            answer: Err(LentFault::NoRoom),
+            store,
+        };
     }
-    one
+    Lent {
+        answer: Ok(()),
+        store,
+    }
 }
 
-// Two images that were read: the number of the first one that is refused, 0 for none, and their stores where none is.
+// Two images that were read: whether both are accepted, or else the fault of the first that is refused; and their stores where none is.
 #[derive(Clone, Copy)]
 pub struct Both {
-    pub number: u8,
+    pub answer: Result<(), ReadFault>,
     pub start: Store,
     pub goal: Store,
 }
@@ -70,19 +105,17 @@ pub fn read_both(start: &[u8], goal: &[u8]) -> Both
     ensures { BothAre start.now goal.now result }
 {
     let one = read_one(start);
-    let s = one.store;
-    if one.number != 0 {
+    if let Err(f) = one.answer {
         return Both {
-            number: one.number,
-            start: s,
-            goal: s,
+            answer: Err(f),
+            start: one.store,
+            goal: one.store,
         };
     }
     let two = read_one(goal);
-    let t = two.store;
     Both {
-        number: two.number,
-        start: s,
-        goal: t,
+        answer: two.answer,
+        start: one.store,
+        goal: two.store,
     }
 }

@@ -11,10 +11,11 @@ ghost use Rattle.agreeing.specs.Agreeing.{Finished};
 ghost use Rattle.choices.specs.Choices.{RoundFor, SomeRound};
 
 use agreeing::next;
-use finding::{Found, find, spot_at, stands};
-use lifts::{Heights, Shaft, Slots};
-use moves::Hints;
+use finding::{find, spot_at, stands};
+use lifts::{Heights, Shaft};
+use moves::Work;
 use rooms::{Frame, Spot, usable};
+use store::Store;
 
 // A round: the shaft that gets its next row, and where the cassette for it stands.
 #[derive(Clone, Copy)]
@@ -32,130 +33,85 @@ fn cover(heights: &Heights, p: u8) -> u8
     16 + heights[i] - p % 16
 }
 
-// The round that looks cheapest: of the shafts that are not finished, the one where what stands there and what covers its next cassette are fewest. `hints` is
-// where each number was set down last. Nothing is promised, and nothing is asked of the hints.
-fn propose(
-    f: Frame,
-    tops: Heights,
-    goal: &Slots,
-    done: &Heights,
-    heights: &Heights,
-    hints: &Hints,
-) -> Round
-    requires fits { Fits f tops }
-    requires fits_2 { Fits f heights.now }
+// The round that looks cheapest: of the shafts that are not finished, the one where what stands there and what covers its next cassette are fewest. The hints of
+// `work` are where each number was set down last. Nothing is promised, and nothing is asked of the hints.
+fn propose(f: Frame, goal: &Store, done: &Heights, work: &Work) -> Round
+    requires fits { Fits f goal.now.heights }
+    requires fits_2 { Fits f work.now.heights }
 {
     let mut least: u8 = 255;
-    let mut to: u8 = 0;
-    let mut place: u8 = 0;
-    let mut x: u8 = 0;
-    while x < f.m {
+    let mut cheapest = Round {
+        to: Shaft(0),
+        from: spot_at(0),
+    };
+    for x in 0..f.m {
         let i = x as usize;
-        if done[i] < tops[i] {
+        if done[i] < goal.heights[i] {
             let v = next(goal, done, Shaft(x)) as usize;
-            let p = hints[v % 4096];
-            let cost = heights[i] + cover(heights, p);
+            let p = work.hints[v % 4096];
+            let cost = work.heights[i] + cover(&work.heights, p);
             if cost < least {
                 least = cost;
-                to = x;
-                place = p;
+                cheapest = Round {
+                    to: Shaft(x),
+                    from: spot_at(p),
+                };
             }
         }
-        x += 1;
     }
-    Round {
-        to: Shaft(to),
-        from: spot_at(place),
-    }
+    cheapest
 }
 
 // Whether a round can be played.
-fn playable(
-    f: Frame,
-    tops: Heights,
-    goal: &Slots,
-    done: &Heights,
-    heights: &Heights,
-    slots: &Slots,
-    r: Round,
-) -> bool
-    requires fits { Fits f tops }
-    requires fits_2 { Fits f heights.now }
-    ensures { Decides result (RoundFor f tops goal.now done.now heights.now slots.now r) }
+fn playable(f: Frame, goal: &Store, done: &Heights, work: &Work, r: Round) -> bool
+    requires fits { Fits f goal.now.heights }
+    requires fits_2 { Fits f work.now.heights }
+    ensures { Decides result (RoundFor f goal.now.heights goal.now.slots done.now work.now.heights work.now.slots r) }
 {
-    let to = r.to;
-    let from = r.from;
-    if !usable(f, to) {
-        return false;
-    }
-    let i = to.0 as usize;
-    if tops[i] <= done[i] {
-        return false;
-    }
-    let v = next(goal, done, to);
-    stands(f, heights, slots, done, v, from)
+    let i = r.to.0 as usize;
+    usable(f, r.to)
+        && done[i] < goal.heights[i]
+        && stands(f, work, done, next(goal, done, r.to), r.from)
 }
 
 // A shaft that is not finished.
-fn first_left(f: Frame, tops: Heights, done: &Heights) -> Shaft
+fn first_left(f: Frame, goal: &Store, done: &Heights) -> Shaft
     requires m_bound { f.m ≤ 16 }
-    requires fact { Finished f tops done.now → ⊥ }
-    ensures { Usable f.m result.0 × (height_in done.now result.0 < height_in tops result.0) }
+    requires fact { Finished f goal.now.heights done.now → ⊥ }
+    ensures { Usable f.m result.0 × (height_in done.now result.0 < height_in goal.now.heights result.0) }
 {
-    let mut x: u8 = 0;
-    while x < f.m {
+    for x in 0..f.m {
         let i = x as usize;
-        if done[i] < tops[i] {
+        if done[i] < goal.heights[i] {
             return Shaft(x);
         }
-        x += 1;
     }
     Shaft(0)
 }
 
 // A shaft that is not finished, and a place of its next cassette.
-fn first_round(
-    f: Frame,
-    tops: Heights,
-    goal: &Slots,
-    done: &Heights,
-    heights: &Heights,
-    slots: &Slots,
-) -> Round
-    requires fits { Fits f tops }
-    requires fits_2 { Fits f heights.now }
-    requires some_round { SomeRound f tops goal.now done.now heights.now slots.now }
-    ensures { RoundFor f tops goal.now done.now heights.now slots.now result }
+fn first_round(f: Frame, goal: &Store, done: &Heights, work: &Work) -> Round
+    requires fits { Fits f goal.now.heights }
+    requires fits_2 { Fits f work.now.heights }
+    requires some_round { SomeRound f goal.now.heights goal.now.slots done.now work.now.heights work.now.slots }
+    ensures { RoundFor f goal.now.heights goal.now.slots done.now work.now.heights work.now.slots result }
 {
-    let to = first_left(f, tops, done);
+    let to = first_left(f, goal, done);
     let v = next(goal, done, to);
-    if let Found::At(from) = find(f, heights, slots, done, v) {
-        return Round { to: to, from: from };
-    }
-    Round {
-        to: to,
-        from: spot_at(0),
-    }
+    let from = find(f, work, done, v).unwrap_or(spot_at(0));
+    Round { to, from }
 }
 
 // A round that can be played.
-pub fn choose(
-    f: Frame,
-    tops: Heights,
-    goal: &Slots,
-    done: &Heights,
-    heights: &Heights,
-    slots: &Slots,
-    hints: &Hints,
-) -> Round
-    requires fits { Fits f tops }
-    requires fits_2 { Fits f heights.now }
-    requires some_round { SomeRound f tops goal.now done.now heights.now slots.now }
-    ensures { RoundFor f tops goal.now done.now heights.now slots.now result }
+pub fn choose(f: Frame, goal: &Store, done: &Heights, work: &Work) -> Round
+    requires fits { Fits f goal.now.heights }
+    requires fits_2 { Fits f work.now.heights }
+    requires some_round { SomeRound f goal.now.heights goal.now.slots done.now work.now.heights work.now.slots }
+    ensures { RoundFor f goal.now.heights goal.now.slots done.now work.now.heights work.now.slots result }
 {
-    let r = propose(f, tops, goal, done, heights, hints);
-    if playable(f, tops, goal, done, heights, slots, r) {
+    let r = propose(f, goal, done, work);
+    if playable(f, goal, done, work, r) {
         return r;
     }
-    first_round(f, tops, goal, done, heights, slots)
+    first_round(f, goal, done, work)
 }

@@ -1,7 +1,7 @@
 // The depths of the shafts (document 02, 7/13), and what follows from them: how many slots there are and which, and the list space.
 #![tactic(auto)]
 
-ghost use Rattle.std.specs.Prelude.{◌≡◌, ◌≤◌, min, max};
+ghost use Rattle.std.specs.Prelude.{◌≡◌, ◌≤◌, min};
 ghost use Rattle.stacks.specs.Count.{sum, greatest};
 ghost use Rattle.lifts.specs.Lifting.{most_shafts, slot_count, height_in};
 ghost use Rattle.depths.specs.Depths.{depth_by, Equal, DepthsFit, space_for, slot_there};
@@ -15,46 +15,32 @@ pub type Depths = [u8; 16];
 pub fn depth_of(depths: Depths, x: usize) -> u8
     ensures { result ≡ depth_by depths x }
 {
-    if x < 16 { depths[x] } else { 0 }
+    depths.get(x).copied().unwrap_or(0)
 }
 
 // Of m shafts those that the arrays have.
 fn shafts_of(m: u8) -> usize
     ensures { result ≡ min m most_shafts }
 {
-    if m < 16 { m as usize } else { 16 }
+    (m as usize).min(16)
 }
 
 // The depths of m shafts that are all h deep.
 pub fn equal(m: u8, h: u8) -> Depths
     ensures { Equal m h result }
 {
-    let some = shafts_of(m);
     let mut depths = [0u8; 16];
-    let mut x: usize = 0;
-    while x < some {
-        depths[x] = h;
-        x += 1;
-    }
+    depths[..shafts_of(m)].fill(h);
     depths
-}
-
-fn greater(a: u8, b: u8) -> u8
-    ensures { result ≡ max a b }
-{
-    if a < b { b } else { a }
 }
 
 // The depth of the deepest of m shafts.
 pub fn deepest_of(m: u8, depths: Depths) -> u8
     ensures { result ≡ greatest m (depth_by depths) }
 {
-    let shafts = m as usize;
     let mut most: u8 = 0;
-    let mut x: usize = 0;
-    while x < shafts {
-        most = greater(most, depth_of(depths, x));
-        x += 1;
+    for x in 0..m as usize {
+        most = most.max(depth_of(depths, x));
     }
     most
 }
@@ -64,10 +50,8 @@ pub fn sum_of(m: u8, heights: Heights) -> u16
     ensures { result ≡ sum m (height_in heights) }
 {
     let mut all: u16 = 0;
-    let mut x: u8 = 0;
-    while x < m {
+    for x in 0..m {
         all += height_of(&heights, Shaft(x)) as u16;
-        x += 1;
     }
     all
 }
@@ -93,17 +77,6 @@ pub fn list_space(m: u8, depths: Depths, n: usize) -> usize
 pub fn slot_there(m: u8, depths: Depths, x: Shaft, y: Row) -> bool
     ensures { result ≡ slot_there m depths x.0 y.0 }
 {
-    if m <= x.0 {
-        return false;
-    }
-    if 16 <= x.0 {
-        return false;
-    }
-    if y.0 == 0 {
-        return false;
-    }
-    if depth_of(depths, x.0 as usize) < y.0 {
-        return false;
-    }
-    y.0 <= 16
+    let depth = depth_of(depths, x.0 as usize);
+    x.0 < m && x.0 < 16 && 0 < y.0 && y.0 <= depth && y.0 <= 16
 }

@@ -11,10 +11,11 @@ use Rattle.marks.specs.Cassettes.{given}
 use Rattle.marks.proofs.Faulted.{first_none, first_stays, first_either, given_either, given_none, not_given}
 use Rattle.lifts.specs.Lifting.{refusal_by}
 use Rattle.store.specs.declared.Store.{Store}
-use Rattle.store.specs.Lifts.{Allowed, lift_refusal, lifted}
+use Rattle.store.specs.Lifts.{Allowed, lifted}
 use Rattle.store.proofs.Refusals.{none_allowed, allowed_none}
 use Rattle.entries.specs.declared.Entry.{Entry}
-use Rattle.entries.specs.Entries.{is_lift, malformed, Formed, number_due, entry_fault, after_entry}
+use Rattle.entries.specs.Entries.{malformed, Formed, number_due, entry_fault, after_entry}
+use Rattle.entries.specs.Promises.{lift_fault}
 
 module _ (m : ℕ) (e : Entry) where
   pub kind_above : 1 < e.kind → true ≡ malformed m e
@@ -76,20 +77,16 @@ module _ (m : ℕ) (e : Entry) where
       first_either (λ n. n ≡ 11 → ⊥) (given (eqb left 0) 13) (given (leb d entered) 14) (other (eqb left 0) 13 (λ z. omega arith)) (other (leb d entered) 14 (λ z. omega arith)) g
 
 module _ (s : Store) (e : Entry) where
-  -- 13 and 14, of a lift
-  abbrev refusal : ℕ
-  refusal = given (is_lift e) (lift_refusal s e.shaft.0 e.second.0)
-
   pub fault_malformed : malformed s.m e ≡ true → entry_fault s e ≡ 19
   unfolding entry_fault
   fault_malformed f = simp f
 
   module _ (f : malformed s.m e ≡ false) where
-    pub fault_lift : (refusal ≡ 0 → ⊥) → entry_fault s e ≡ refusal
+    pub fault_lift : (lift_fault s e ≡ 0 → ⊥) → entry_fault s e ≡ lift_fault s e
     unfolding entry_fault
-    fault_lift n = simp f (first_stays refusal _ n)
+    fault_lift n = simp f (first_stays (lift_fault s e) _ n)
 
-    module _ (z : refusal ≡ 0) where
+    module _ (z : lift_fault s e ≡ 0) where
       pub fault_number_lem : (e.number ≡ number_due s e → ⊥) → entry_fault s e ≡ 20
       unfolding entry_fault
       fault_number_lem n = simp (f, z, ne_eqb e.number (number_due s e) n)
@@ -108,7 +105,7 @@ module _ (s : Store) (e : Entry) where
   unfolding entry_fault
   none_true_lem h =
       let p = first_none (given (malformed s.m e) 19) _ h in
-      let q = first_none refusal _ p.1 in
+      let q = first_none (lift_fault s e) _ p.1 in
       record {
         formed = formed s.m e (given_none _ 18 p.0);
         allowed = λ z. none_allowed s e.shaft.0 e.second.0 (simp (z) at q.0);
@@ -118,7 +115,7 @@ module _ (s : Store) (e : Entry) where
   pub true_none : True → entry_fault s e ≡ 0
   true_none p = fault_none (not_malformed s.m e p.formed) z p.number
     where
-      z : refusal ≡ 0
+      z : lift_fault s e ≡ 0
       z = elim (ℕ_discrete e.kind 0) [
         | yes h ↦ simp (h, allowed_none s e.shaft.0 e.second.0 (p.allowed h))
         | no n ↦ simp (ne_eqb e.kind 0 n)

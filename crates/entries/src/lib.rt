@@ -3,18 +3,19 @@
 
 ghost use Rattle.std.specs.Prelude.{false, ◌≡◌, ◌+◌, ◌*◌, ◌≤◌, ◌<◌, eqb, length, drop};
 ghost use Rattle.bits.specs.Fields.{field, bits_of};
-ghost use Rattle.lifts.specs.Lifting.{most_shafts, most_rows, height_in, shown};
+ghost use Rattle.lifts.specs.Lifting.{most_shafts, most_rows};
 ghost use Rattle.lifts.specs.Numbers.{Only, refusal_number};
-ghost use Rattle.store.specs.Slots.{held};
+ghost use Rattle.store.specs.Slots.{height, top_of};
 ghost use Rattle.store.specs.Sound.{Shaped};
 ghost use Rattle.entries.specs.Entries.{entry_bytes, entry_in, malformed, entry_fault};
 ghost use Rattle.entries.specs.Numbers.{untrue_number, truth_number};
 ghost use Rattle.entries.specs.Promises.{lift_fault, EntryIs};
 
-use bits::{Field, read_field};
-use depths::{Depths, depth_of};
-use lifts::{Heights, Judged, Refusal, Shaft, Slots, carry, height_at, height_of, judge, slot_at};
+use bits::read_field;
+use depths::depth_of;
+use lifts::{Refusal, Shaft, carry, height_at, height_of, judge, slot_at};
 use marks::Cassette;
+use store::Store;
 
 // "kind (4 bits), shaft (4), second shaft (4), number (12)"
 #[derive(Clone, Copy)]
@@ -34,11 +35,17 @@ pub enum Untrue {
     WrongNumber,
 }
 
-// Whether an entry can be true.
-#[derive(Clone, Copy)]
-pub enum Truth {
-    CanBe,
-    CannotBe(Untrue),
+impl From<Refusal> for Untrue {
+    ghost from_gives = { λ r u. (refusal_number r ≡ 11 → ⊥) → untrue_number u ≡ refusal_number r };
+
+    // A lift refused by 13 or 14; 11 is ruled out where 19 is.
+    fn from(r: Refusal) -> Untrue {
+        match r {
+            Refusal::Shafts => Untrue::Malformed,
+            Refusal::Empty => Untrue::ShaftEmpty,
+            Refusal::Full => Untrue::ShaftFull,
+        }
+    }
 }
 
 // A field of w bits that is there.
@@ -46,10 +53,7 @@ fn field_there(log: &[u8], at: usize, w: usize) -> u16
     requires { (0 < w) × (w ≤ 16) × (at + w ≤ length log.now * 8) }
     ensures { result ≡ field (drop at (bits_of log.now)) w }
 {
-    match read_field(log, at, w) {
-        Field::Missing => 0,
-        Field::Value(v) => v,
-    }
+    read_field(log, at, w).unwrap()
 }
 
 // The first entry of a log that has one.
@@ -86,85 +90,59 @@ fn is_malformed(m: u8, e: Entry) -> bool
     shaft.0 == second.0
 }
 
-// Why an entry can't be true whose lift is refused, by 13 or 14.
-fn untrue_of(r: Refusal) -> Untrue
-    requires { refusal_number r ≡ 11 → ⊥ }
-    ensures { untrue_number result ≡ refusal_number r }
-{
-    match r {
-        Refusal::Shafts => Untrue::Malformed,
-        Refusal::Empty => Untrue::ShaftEmpty,
-        Refusal::Full => Untrue::ShaftFull,
-    }
-}
-
 // Whether 13 or 14 applies to an entry that is well formed.
-fn judge_entry(m: u8, depths: Depths, heights: &Heights, e: Entry) -> Truth
-    requires e_value { malformed m e ≡ false }
-    requires heights_len { length heights.now ≡ most_shafts }
-    ensures { truth_number result ≡ lift_fault m depths heights.now e }
+fn judge_entry(s: &Store, e: Entry) -> Result<(), Untrue>
+    requires { malformed s.now.m e ≡ false }
+    ensures { truth_number result ≡ lift_fault s.now e }
 {
     if e.kind != 0 {
-        return Truth::CanBe;
+        return Ok(());
     }
     let from = e.shaft;
     let to = e.second;
-    let depth = depth_of(depths, to.0 as usize);
-    let left = height_of(heights, from);
-    let entered = height_of(heights, to);
-    match judge(m, depth, from, to, left, entered) {
-        Judged::Allowed => Truth::CanBe,
-        Judged::Refused(r) => Truth::CannotBe(untrue_of(r)),
-    }
+    let depth = depth_of(s.depths, to.0 as usize);
+    let left = height_of(&s.heights, from);
+    let entered = height_of(&s.heights, to);
+    judge(s.m, depth, from, to, left, entered)?;
+    Ok(())
 }
 
 // Whether a number is what the store shows on top of a shaft: 0 for an empty one.
-fn shows(heights: &Heights, slots: &Slots, x: Shaft, number: Cassette) -> bool
-    requires { (x.0 < most_shafts) × (height_in heights.now x.0 ≤ most_rows) }
-    ensures { result ≡ eqb number (shown slots.now x.0 (height_in heights.now x.0)) }
+fn shows(s: &Store, x: Shaft, number: Cassette) -> bool
+    requires { (x.0 < most_shafts) × (height s.now x.0 ≤ most_rows) }
+    ensures { result ≡ eqb number (top_of s.now x.0) }
 {
     let i = x.0 as usize;
-    let rows = height_at(heights, i) as usize;
+    let rows = height_at(&s.heights, i) as usize;
     if rows == 0 {
         return number == 0;
     }
-    number == slot_at(slots, 16 * i + (rows - 1))
+    number == slot_at(&s.slots, 16 * i + (rows - 1))
 }
 
 // Whether an entry can be true of a store, or else why not.
-fn compare(m: u8, depths: Depths, heights: &Heights, slots: &Slots, e: Entry) -> Truth
-    requires { Shaped (held m depths heights.now slots.now) }
-    ensures { Only truth_number (entry_fault (held m depths heights.now slots.now) e) result }
+fn compare(s: &Store, e: Entry) -> Result<(), Untrue>
+    requires { Shaped s.now }
+    ensures { Only truth_number (entry_fault s.now e) result }
 {
-    if is_malformed(m, e) {
-        return Truth::CannotBe(Untrue::Malformed);
+    if is_malformed(s.m, e) {
+        return Err(Untrue::Malformed);
     }
-    if let Truth::CannotBe(u) = judge_entry(m, depths, heights, e) {
-        return Truth::CannotBe(u);
+    judge_entry(s, e)?;
+    if !shows(s, e.shaft, e.number) {
+        return Err(Untrue::WrongNumber);
     }
-    if !shows(heights, slots, e.shaft, e.number) {
-        return Truth::CannotBe(Untrue::WrongNumber);
-    }
-    Truth::CanBe
+    Ok(())
 }
 
-// An entry followed in the heights and the slots of a store of m shafts with these depths: a lift that can be true is made in place.
-pub fn follow_entry(
-    m: u8,
-    depths: Depths,
-    heights: &mut Heights,
-    slots: &mut Slots,
-    e: Entry,
-) -> Truth
-    requires { Shaped (held m depths heights.old slots.old) }
-    ensures { EntryIs (held m depths heights.old slots.old) e (held m depths heights.new slots.new) result }
+// An entry followed in a store: a lift that can be true is made in place.
+pub fn follow_entry(s: &mut Store, e: Entry) -> Result<(), Untrue>
+    requires { Shaped s.old }
+    ensures { EntryIs s.old e s.new result }
 {
-    let found = compare(m, depths, heights, slots, e);
-    if let Truth::CannotBe(_) = found {
-        return found;
-    }
+    compare(s, e)?;
     if e.kind == 0 {
-        carry(heights, slots, e.shaft, e.second);
+        carry(&mut s.heights, &mut s.slots, e.shaft, e.second);
     }
-    found
+    Ok(())
 }

@@ -7,13 +7,13 @@ use Prim.Native.Nat.{ℕ, ◌+◌, ◌*◌, ◌/◌, ◌≤◌, ◌<◌}
 use native.Mathlib.Omega.{arith}
 use lib.Dec.{ltb, eqb}
 use lib.ListN.{length, drop}
-use Rattle.bits.specs.declared.Field.TheVariants.{Value, Missing}
+use Rattle.std.specs.Option.{option_eq}
+use Rattle.std.specs.Prelude.{Some, Ok, Err}
 use Rattle.bits.specs.Fields.{field, bits_of, next_field}
-use Rattle.bits.proofs.Places.{length_rest, there, field_there}
+use Rattle.bits.proofs.Places.{length_rest, field_there}
 use Rattle.image.specs.Reading.{padding, finish}
-use Rattle.fields.specs.declared.Cursor.{Cursor}
-use Rattle.fields.specs.Cursors.{left, EndIs}
-use Rattle.fields.proofs.Cursors.{both_refused, stop}
+use Rattle.image.specs.declared.ReadFault.{ReadFault}
+use Rattle.fields.specs.Steps.{left, EndIs}
 
 -- what is left, by its length
 padding_by : (l : List Bool) (n : ℕ) → length l ≡ n → padding l ≡ (ltb n 8 && eqb (field l n) 0)
@@ -31,30 +31,19 @@ module _ (s : List ℕ) (at : ℕ) where
       let e : 8 ≤ length (drop at (bits_of s)) = omega (arith, length_rest s at 0) in
       simp (le-ltb (length (drop at (bits_of s))) 8 e)
 
-  module _ (n : ℕ) (whole : at + n ≡ length s * 8) where
-    pub bits_left : (v : ℕ) → n < 8 → next_field (drop at (bits_of s)) n ≡ Value v → eqb v 0 ≡ padding (drop at (bits_of s))
-    bits_left v h f =
-        let p = there (drop at (bits_of s)) n v f in
-        let e : length (drop at (bits_of s)) ≡ n = length_rest s at 0 ∙ omega arith in
-        ap (λ (k : ℕ). eqb k 0) p.value
-        ∙ sym (padding_by (drop at (bits_of s)) n e ∙ ap (λ (t : Bool). t && eqb (field (drop at (bits_of s)) n) 0) (lt-ltb n 8 h))
-
-    -- bits that are there are not missing
-    pub not_missing : next_field (drop at (bits_of s)) n ≡ Missing → ⊥
-    not_missing f =
-        let g : Value (field (drop at (bits_of s)) n) ≡ Missing = field_there s at n (omega arith) ∙ f in
-        let z : ◌≡◌ {A = ℕ} 0 1 = cc in omega arith
+  pub bits_left : (n : ℕ) → at + n ≡ length s * 8 → n < 8
+      → option_eq eqb (next_field (drop at (bits_of s)) n) (Some 0) ≡ padding (drop at (bits_of s))
+  bits_left n whole h =
+      let e : length (drop at (bits_of s)) ≡ n = length_rest s at 0 ∙ omega arith in
+      rw (← field_there s at n (omega arith))
+      (sym (padding_by (drop at (bits_of s)) n e ∙ ap (λ (t : Bool). t && eqb (field (drop at (bits_of s)) n) 0) (lt-ltb n 8 h)))
 
 -- 7, or the store
-module _ (bytes : List ℕ) (c : Cursor) where
-  pub end_kept : (c.fault ≡ 0 → ⊥) → EndIs bytes c c
-  end_kept h = record { same = λ before s. both_refused c.fault _ _ h }
+module _ (bytes : List ℕ) (at : ℕ) where
+  pub not_padded : padding (left bytes at) ≡ false → EndIs bytes at (Err ReadFault.Padding)
+  unfolding finish
+  not_padded p = record { same = λ before s. rw p }
 
-  module _ (e : c.fault ≡ 0) where
-    pub not_padded : padding (left bytes c.at) ≡ false → EndIs bytes c (stop c 7)
-    unfolding finish
-    not_padded p = record { same = λ before s. rw (e, p) }
-
-    pub all_read : padding (left bytes c.at) ≡ true → EndIs bytes c c
-    unfolding finish
-    all_read p = record { same = λ before s. rw (e, p) }
+  pub all_read : padding (left bytes at) ≡ true → EndIs bytes at (Ok tt)
+  unfolding finish
+  all_read p = record { same = λ before s. rw p }

@@ -1,2 +1,2 @@
-pub mod Cursors
+pub mod Steps
 pub mod Endings

@@ -1,66 +1,42 @@
-// The fields of an image (document 01, "Which comes first"): the next one, the head and the end. "Reading goes field by field, and the first fault met is given": the
-// cursor keeps it, and the parts after it change nothing.
+// The fields of an image (document 01, "Which comes first"): the next one, the head and the end. "Reading goes field by field, and the first fault met is given".
 #![tactic(auto)]
 
 ghost use Rattle.std.specs.Prelude.{◌≡◌, ◌^◌, ◌≤◌, ◌<◌, drop};
 ghost use Rattle.bits.specs.Fields.{bits_of};
-ghost use Rattle.image.specs.Image.{form_width, form_in};
+ghost use Rattle.image.specs.Image.{form_in};
 ghost use Rattle.image.specs.Reading.{padding};
-ghost use Rattle.fields.specs.Cursors.{FieldIs, FieldIfIs, FormIs, HeadIs, EndIs};
+ghost use Rattle.fields.specs.Steps.{FieldIs, FieldIfIs, HeadIs, EndIs};
 
-use bits::{Field, read_field};
+use bits::read_field;
 use forms::own_depths;
+use image::ReadFault;
 
-// The bit position, the field just read, and the number of the first fault met, 0 for none.
-#[derive(Clone, Copy)]
-pub struct Cursor {
-    pub at: usize,
-    pub value: u16,
-    pub fault: u8,
-}
-
-pub fn stopped(c: Cursor, fault: u8) -> Cursor
-    ensures { result ≡ record { at = c.at; value = 0; fault = fault } }
+// The next field of w bits from a position on, which moves past it: "2 for a missing field".
+pub fn next_field(image: &[u8], at: &mut usize, w: usize) -> Result<u16, ReadFault>
+    requires { (0 < w) × (w ≤ 16) × (at.old ≤ 9000) }
+    ensures { FieldIs image.now w at.old at.new result }
 {
-    Cursor {
-        at: c.at,
-        value: 0,
-        fault,
-    }
-}
-
-// The next field of w bits: "2 for a missing field". After a fault there is none.
-pub fn next_field(image: &[u8], c: Cursor, w: usize) -> Cursor
-    requires { (0 < w) × (w ≤ 16) × (c.at ≤ 9000) }
-    ensures { FieldIs image.now w c result }
-{
-    if c.fault != 0 {
-        return stopped(c, c.fault);
-    }
-    match read_field(image, c.at, w) {
-        Field::Missing => stopped(c, 2),
-        Field::Value(value) => Cursor {
-            at: c.at + w,
-            value,
-            fault: 0,
-        },
-    }
+    let value = read_field(image, *at, w).ok_or(ReadFault::Short)?;
+    *at += w;
+    Ok(value)
 }
 
 // The next field of w bits where it is there, else the value v.
-pub fn field_if(image: &[u8], there: bool, c: Cursor, w: usize, v: u16) -> Cursor
-    requires w_nonzero { (0 < w) × (w ≤ 16) × (c.at ≤ 9000) }
+pub fn field_if(
+    image: &[u8],
+    at: &mut usize,
+    there: bool,
+    w: usize,
+    v: u16,
+) -> Result<u16, ReadFault>
+    requires w_nonzero { (0 < w) × (w ≤ 16) × (at.old ≤ 9000) }
     requires v_bound { v < 2 ^ w }
-    ensures { FieldIfIs image.now there w v c result }
+    ensures { FieldIfIs image.now there w v at.old at.new result }
 {
     if there {
-        return next_field(image, c, w);
+        return next_field(image, at, w);
     }
-    Cursor {
-        at: c.at,
-        value: v,
-        fault: c.fault,
-    }
+    Ok(v)
 }
 
 // Whether the bits from a position on are zero bits to the end of a byte.
@@ -76,55 +52,24 @@ fn padded(image: &[u8], at: usize) -> bool
     if at / 8 + 1 < image.len() {
         return false;
     }
-    match read_field(image, at, 8 - at % 8) {
-        Field::Missing => false,
-        Field::Value(v) => v == 0,
-    }
+    read_field(image, at, 8 - at % 8) == Some(0)
 }
 
 // After the last shaft: 7 unless zero bits to the end of the byte are all that is left.
-pub fn finished(image: &[u8], c: Cursor) -> Cursor
-    ensures { EndIs image.now c result }
+pub fn finished(image: &[u8], at: usize) -> Result<(), ReadFault>
+    ensures { EndIs image.now at result }
 {
-    if c.fault != 0 {
-        return c;
+    if !padded(image, at) {
+        return Err(ReadFault::Padding);
     }
-    if !padded(image, c.at) {
-        return stopped(c, 7);
-    }
-    c
-}
-
-// The field just read is the form: 1 for one above 2.
-fn check_form(c: Cursor) -> Cursor
-    requires { c.value < 2 ^ form_width }
-    ensures { FormIs c result }
-{
-    if c.fault != 0 {
-        return c;
-    }
-    if c.value > 2 {
-        return stopped(c, 1);
-    }
-    c
+    Ok(())
 }
 
 // The form that an image names: its first field.
 pub fn form_in(image: &[u8]) -> u8
     ensures { result ≡ form_in image.now }
 {
-    match read_field(image, 0, 4) {
-        Field::Missing => 0,
-        Field::Value(v) => v as u8,
-    }
-}
-
-// The form that was read.
-fn form_named(c: Cursor) -> u8
-    requires { c.value < 2 ^ form_width }
-    ensures { result ≡ c.value }
-{
-    c.value as u8
+    read_field(image, 0, 4).unwrap_or(0) as u8
 }
 
 // The form, m, and in form 0 the depth − 1 of all shafts; and where the first shaft begins.
@@ -133,26 +78,24 @@ pub struct Head {
     pub form: u8,
     pub m: u8,
     pub depth: u16,
-    pub cursor: Cursor,
+    pub at: usize,
 }
 
-// The form, m − 1, and where no shaft has its own the depth − 1.
-pub fn read_head(image: &[u8]) -> Head
+// The form, 1 for one above 2; m − 1; and where no shaft has its own the depth − 1.
+pub fn read_head(image: &[u8]) -> Result<Head, ReadFault>
     ensures { HeadIs image.now result }
 {
-    let start = Cursor {
-        at: 0,
-        value: 0,
-        fault: 0,
-    };
-    let named = check_form(next_field(image, start, 4));
-    let form = form_named(named);
-    let size = next_field(image, named, 4);
-    let depth = field_if(image, !own_depths(form), size, 4, 0);
-    Head {
-        form,
-        m: size.value as u8 + 1,
-        depth: depth.value,
-        cursor: depth,
+    let mut at = 0;
+    let form = next_field(image, &mut at, 4)? as u8;
+    if form > 2 {
+        return Err(ReadFault::WrongForm);
     }
+    let size = next_field(image, &mut at, 4)? as u8;
+    let depth = field_if(image, &mut at, !own_depths(form), 4, 0)?;
+    Ok(Head {
+        form,
+        m: size + 1,
+        depth,
+        at,
+    })
 }

@@ -10,7 +10,7 @@ ghost use Rattle.image.specs.Coding.{blank_value, meant, coded, codable};
 ghost use Rattle.image.specs.Image.{own_depths, wide_width, cassette_width, depth_fields, length_in, holds};
 
 use depths::{Depths, depth_of, sum_of};
-use lifts::{Slots, slot_at};
+use lifts::Slots;
 use marks::{Cassette, is_blank};
 use store::Store;
 
@@ -68,26 +68,17 @@ fn all_codable(w: usize, slots: &Slots) -> bool
     requires { w < 16 }
     ensures { Decides result ((i : ℕ) → i < slot_count → codable w (get_or slots.now i 0) ≡ true) }
 {
-    let mut i: usize = 0;
-    while i < 256 {
-        if !codable(w, slot_at(slots, i)) {
-            return false;
-        }
-        i += 1;
-    }
-    true
+    slots.iter().all(|c| codable(w, *c))
 }
 
 fn equal_depths(m: u8, depths: Depths) -> bool
     ensures { Decides result ((x : ℕ) → x < m → depth_by depths x ≡ depth_by depths 0) }
 {
     let first = depth_of(depths, 0);
-    let mut x: u8 = 0;
-    while x < m {
+    for x in 0..m {
         if depth_of(depths, x as usize) != first {
             return false;
         }
-        x += 1;
     }
     true
 }
@@ -96,22 +87,14 @@ fn equal_depths(m: u8, depths: Depths) -> bool
 fn depths_held(form: u8, m: u8, depths: Depths) -> bool
     ensures { Decides result (own_depths form ≡ false → (x : ℕ) → x < m → depth_by depths x ≡ depth_by depths 0) }
 {
-    if own_depths(form) {
-        return true;
-    }
-    equal_depths(m, depths)
+    own_depths(form) || equal_depths(m, depths)
 }
 
 // Whether a form can hold a store: else 18.
 pub fn can_hold(form: u8, s: Store) -> bool
     ensures { result ≡ holds form s }
 {
-    let depths = s.depths;
-    let slots = s.slots;
-    if !depths_held(form, s.m, depths) {
-        return false;
-    }
-    all_codable(cassette_width(form), &slots)
+    depths_held(form, s.m, s.depths) && all_codable(cassette_width(form), &s.slots)
 }
 
 // How many depths an image of m shafts names.
@@ -125,9 +108,8 @@ fn depth_fields(form: u8, m: u8) -> usize
 pub fn length_in(form: u8, s: Store) -> usize
     ensures { result ≡ length_in form s }
 {
-    let heights = s.heights;
     let m = s.m as usize;
-    let n = sum_of(s.m, heights) as usize;
+    let n = sum_of(s.m, s.heights) as usize;
     let bits = 8 + 4 * depth_fields(form, s.m) + 5 * m + n * cassette_width(form);
     (bits + 7) / 8
 }

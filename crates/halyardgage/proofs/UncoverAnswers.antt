@@ -1,33 +1,16 @@
--- What the call on an image says of its row: the image's number, and the row answered on its store, or left as it came; and that it says no two things at once.
+-- What the call on an image says of its row is no two things at once.
 use mathlib.Core.List.{List}
 use mathlib.Core.Path.{◌≡◌, refl, sym, ◌∙◌, subst}
 use Prim.Native.Nat.{ℕ, ◌<◌}
 use native.Mathlib.Decide.{ℕ_discrete}
 use lib.ListN.{get_or}
 use Rattle.store.specs.declared.Store.{Store}
-use Rattle.store.specs.declared.Verdict.{Verdict}
-use Rattle.calls.specs.declared.One.{One}
 use Rattle.calls.specs.Shared.{store_in, read_fault, OneIs}
 use Rattle.calls.proofs.Readings.{stood_accepted}
 use Rattle.orders.proofs.RowExact.{row_exact}
 use Rattle.orders.specs.declared.Order.{Order}
 use Rattle.orders.specs.Orders.{RowIs, UncoverIs}
 use Rattle.halyardgage.specs.UncoverCall.{UncoverCallIs}
-
-module _ {a : List ℕ} {one : One} (p : OneIs a one) {came : List Order} where
-  pub image_refused : (one.number ≡ 0 → ⊥) → UncoverCallIs a came one.number came
-  image_refused n = record {
-    number = p.number;
-    answered = λ z. absurd (n (p.number ∙ z));
-    refused = λ _. refl;
-  }
-
-  pub image_answered : one.number ≡ 0 → {verdict : Verdict} {out : List Order} → UncoverIs one.store came verdict out → UncoverCallIs a came one.number out
-  image_answered z {verdict} {out} q = record {
-    number = p.number;
-    answered = λ e. subst (λ (s : Store). RowIs s came out) p.store (q.answered (p.accepted z));
-    refused = λ n. absurd (n (sym p.number ∙ z));
-  }
 
 -- two answers that keep the call's promise are the same, and so are the rows
 pub uncover_call_exact : {a : List ℕ} {came x y : List Order} {q r : ℕ} → ((i : ℕ) → get_or a i 0 < 256) → UncoverCallIs a came q x → UncoverCallIs a came r y → (q ≡ r) × (x ≡ y)

@@ -13,6 +13,7 @@ ghost use Rattle.replay_call.specs.ReplayCall.{ReplayCallIs};
 use calls::read_one;
 use convert_call::call_convert;
 use follow_call::call_follow;
+use numbers::Numbered;
 use orders::{Order, uncover};
 use pair_calls::{call_plan, call_reachable};
 use replay_call::call_replay;
@@ -22,8 +23,7 @@ use replay_call::call_replay;
 pub extern "C" fn halyard_check(image: &[u8]) -> u64
     ensures { result ≡ read_fault image.now }
 {
-    let one = read_one(image);
-    one.number as u64
+    read_one(image).answer.number() as u64
 }
 
 // Whether some list of legal lifts leads from start to goal.
@@ -72,10 +72,9 @@ pub extern "C" fn halyard_uncover(image: &[u8], orders: &mut [Order]) -> u64
     ensures { UncoverCallIs image.now orders.old result orders.new }
 {
     let one = read_one(image);
-    let number = one.number;
-    if number == 0 {
-        let s = one.store;
-        uncover(s, orders);
+    if one.answer.is_ok() {
+        // Nothing refuses it: the store of an accepted image is accepted.
+        let _ = uncover(one.store, orders);
     }
-    number as u64
+    one.answer.number() as u64
 }

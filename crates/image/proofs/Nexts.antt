@@ -6,8 +6,7 @@ use Prim.Native.Nat.{ℕ, zero, suc, ◌^◌, ◌<◌}
 use native.Mathlib.Omega.{arith}
 use lib.ListN.{drop}
 use lib.Seq.{drop_at}
-use Rattle.bits.specs.declared.Field.{Field}
-use Rattle.bits.specs.declared.Field.TheVariants.{Value, Missing}
+use Rattle.std.specs.Prelude.{Option, Some, None}
 use Rattle.bits.specs.Fields.{bits, next_field}
 use Rattle.bits.proofs.Places.{field_first, There, there, Found, look}
 use Rattle.bits.proofs.Widths.{length_bits, field_lt}
@@ -35,12 +34,12 @@ pub record Took (w : ℕ) (l : List Bool) (c : ℕ → List Bool → Reading) (s
 pub took : (w : ℕ) (l : List Bool) (c : ℕ → List Bool → Reading) (s : Store) → next w l c ≡ accepted s → Took w l c s
 took w l c s e = go (look l w)
   where
-    on : (f : Field) → next_field l w ≡ f → from_field f (λ n. c n (drop w l)) ≡ accepted s
-    on f q = sym (ap (λ (g : Field). from_field g (λ n. c n (drop w l))) q) ∙ e
+    on : (f : Option ℕ) → next_field l w ≡ f → from_field f (λ n. c n (drop w l)) ≡ accepted s
+    on f q = sym (ap (λ (g : Option ℕ). from_field g (λ n. c n (drop w l))) q) ∙ e
 
     go : Found l w → Took w l c s
-    go (Found.found v q) = record { v = v; is = there l w v q; after = on (Value v) q }
-    go (Found.lost q) = let z : ◌≡◌ {A = ℕ} 2 0 = ap (λ (r : Reading). r.number) (on Missing q) in absurd (omega arith)
+    go (Found.found v q) = record { v = v; is = there l w v q; after = on (Some v) q }
+    go (Found.lost q) = let z : ◌≡◌ {A = ℕ} 2 0 = ap (λ (r : Reading). r.number) (on None q) in absurd (omega arith)
 
 -- a field that is there or not: what it gives a reading, and what an accepted reading says of it
 pub if_reads : (there : Bool) (w v u : ℕ) (r : List Bool) (c : ℕ → List Bool → Reading) → u < 2 ^ w → next_if there w v (field_if there w u ++ r) c ≡ c (cond there u v) r

@@ -6,16 +6,16 @@ use mathlib.Core.Path.{refl}
 use Prim.Native.Nat.{ℕ, zero, suc, ◌+◌}
 use native.Mathlib.Omega.{arith}
 use lib.Dec.{ltb}
-use Rattle.bits.specs.declared.Field.{Field}
-use Rattle.bits.specs.declared.Field.TheVariants.{Value, Missing}
+use Rattle.std.specs.Prelude.{Option, Some, None}
 use Rattle.bits.specs.Fields.{bits_of, next_field}
 use Rattle.marks.proofs.Faulted.{given_either}
 use Rattle.marks.proofs.Takes.{cassette_either}
 use Rattle.store.specs.declared.Store.{Store}
+use Rattle.store.specs.Slots.{empty_store}
 use Rattle.image.specs.Coding.{meant}
 use Rattle.image.specs.Image.{form_width, frame_width, height_width, cassette_width, last_form, own_depths}
 use Rattle.image.specs.Numbers.{ReadingGives}
-use Rattle.image.specs.Reading.{Reading, empty_store, no_depths, unless, Rest, from_field, next, next_if, deepened, raised, placed, read_row, read_rows, read_shaft, read_shafts, padding, finish, read_image}
+use Rattle.image.specs.Reading.{Reading, no_depths, unless, Rest, from_field, next, next_if, deepened, raised, placed, read_row, read_rows, read_shaft, read_shafts, padding, finish, read_image}
 
 record Gives (o : Reading) : Type 0 where
   number : ReadingGives o.number
@@ -24,9 +24,9 @@ unless_gives : (k : ℕ) (o : Reading) → ReadingGives k → Gives o → Gives 
 unless_gives zero o p q = q
 unless_gives (suc k) o p q = record { number = p }
 
-field_gives : (f : Field) (c : ℕ → Reading) → ((v : ℕ) → Gives (c v)) → Gives (from_field f c)
-field_gives (Value v) c h = h v
-field_gives Missing c h = record { number = inl (omega arith) }
+field_gives : (f : Option ℕ) (c : ℕ → Reading) → ((v : ℕ) → Gives (c v)) → Gives (from_field f c)
+field_gives (Some v) c h = h v
+field_gives None c h = record { number = inl (omega arith) }
 
 next_gives : (w : ℕ) (l : List Bool) (c : ℕ → List Bool → Reading) → ((v : ℕ) (r : List Bool) → Gives (c v r)) → Gives (next w l c)
 next_gives w l c h = field_gives (next_field l w) _ (λ v. h v _)

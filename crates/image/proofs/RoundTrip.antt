@@ -20,7 +20,7 @@ use Rattle.marks.proofs.MarkLaws.{zeros}
 use Rattle.lifts.specs.Lifting.{most_shafts, most_rows, slot_count, shown}
 use Rattle.depths.specs.Depths.{depth_by}
 use Rattle.store.specs.declared.Store.{Store}
-use Rattle.store.specs.Slots.{depth, height, slot, cassettes}
+use Rattle.store.specs.Slots.{depth, height, slot, cassettes, empty_store}
 use Rattle.store.specs.Accept.{shafts_fault, Accepted}
 use Rattle.store.specs.Sound.{Shaped, Sound}
 use Rattle.store.proofs.Acceptance.{accepted_sound, accepted_walks}
@@ -29,7 +29,7 @@ use Rattle.store.proofs.Verdicts.{by_shafts}
 use Rattle.store.proofs.Walk.{shaft_none, not_too_high}
 use Rattle.image.specs.Coding.{codable}
 use Rattle.image.specs.Image.{form_width, frame_width, last_form, form_fault, own_depths, field_if, cassette_width, head_bits, shafts_bits, image_bits, length_in, image_in, holds, form_in}
-use Rattle.image.specs.Reading.{Reading, empty_store, no_depths, next, padding, end_fault, finish, read_body, read_depth, read_size, read_form, read_image}
+use Rattle.image.specs.Reading.{Reading, no_depths, next, padding, end_fault, finish, read_body, read_depth, read_size, read_form, read_image}
 use Rattle.image.proofs.Cut.{cut, cut_to, cut_all, low_zero, held_same}
 use Rattle.image.proofs.Nexts.{accepted, unless_accepted, next_reads, took, if_reads, took_if}
 use Rattle.image.proofs.Coding.{codable_number, zero_codable}

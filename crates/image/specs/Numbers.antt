@@ -1,28 +1,37 @@
 -- The number of document 01 ("Refused because of the input"), or of document 02, for each case of an answer; 0 where nothing is refused. 6 is retired (request 3/13) and
 -- is not used again.
-use Rattle.std.specs.Prelude.{◌⊎◌, ◌≡◌, ℕ, ◌≤◌}
-use Rattle.image.specs.declared.ReadAnswer.{ReadAnswer}
-use Rattle.image.specs.declared.ReadAnswer.TheVariants.{Accepted, WrongForm, Short, TooHigh, NumberZero, Twice, Padding}
-use Rattle.image.specs.declared.WriteAnswer.{WriteAnswer}
-use Rattle.image.specs.declared.WriteAnswer.TheVariants.{Whole, StoreRefused, WrongForm as FormAboveLast, CannotHold, NoRoom}
+use Rattle.std.specs.Prelude.{◌⊎◌, ◌≡◌, ℕ, ◌≤◌, Result}
+use Rattle.marks.specs.declared.CassetteFault.{CassetteFault}
+use Rattle.marks.specs.Taking.{result_number}
 use Rattle.store.specs.Numbers.{fault_number}
+use Rattle.image.specs.declared.ReadFault.{ReadFault}
+use Rattle.image.specs.declared.WriteFault.{WriteFault}
 
-abbrev pub read_number : ReadAnswer → ℕ
-read_number Accepted = 0
-read_number WrongForm = 1
-read_number Short = 2
-read_number TooHigh = 3
-read_number NumberZero = 4
-read_number Twice = 5
-read_number Padding = 7
+abbrev pub read_fault_number : ReadFault → ℕ
+read_fault_number ReadFault.WrongForm = 1
+read_fault_number ReadFault.Short = 2
+read_fault_number ReadFault.TooHigh = 3
+read_fault_number ReadFault.NumberZero = 4
+read_fault_number ReadFault.Twice = 5
+read_fault_number ReadFault.Padding = 7
+
+-- the fault of an image one of whose cassettes has a fault
+abbrev pub read_fault_of : CassetteFault → ReadFault
+read_fault_of CassetteFault.NoCassette = ReadFault.NumberZero
+read_fault_of CassetteFault.Twice = ReadFault.Twice
+
+abbrev pub read_number : Result Unit ReadFault → ℕ
+read_number = result_number read_fault_number
 
 -- the numbers that a reading gives
 abbrev pub ReadingGives : ℕ → Type 0
 ReadingGives k = (k ≤ 5) ⊎ (k ≡ 7)
 
-abbrev pub write_number : WriteAnswer → ℕ
-write_number Whole = 0
-write_number (StoreRefused f) = fault_number f
-write_number FormAboveLast = 1
-write_number CannotHold = 18
-write_number NoRoom = 10
+abbrev pub write_fault_number : WriteFault → ℕ
+write_fault_number (WriteFault.StoreRefused f) = fault_number f
+write_fault_number WriteFault.WrongForm = 1
+write_fault_number WriteFault.CannotHold = 18
+write_fault_number WriteFault.NoRoom = 10
+
+abbrev pub write_number : Result ℕ WriteFault → ℕ
+write_number = result_number write_fault_number

@@ -1,14 +1,12 @@
 -- Reading an image (document 01, "Which comes first"; document 02, 7/13 and 8/13): "Reading goes field by field, and the first fault met is given: 2 for a missing field, then
 -- the field's own fault (4 before 5)." After the last shaft comes 7 (request 3/13). Each part is handed what is read after it, so the faults come in this
 -- order.
-use Rattle.std.specs.Prelude.{Bool, cond, not, ◌&&◌, List, [], ◌∷◌, ◌++◌, ℕ, zero, suc, ◌+◌, ◌*◌, ltb, eqb, length, drop, set, replicate}
-use Rattle.bits.specs.declared.Field.{Field}
-use Rattle.bits.specs.declared.Field.TheVariants.{Value, Missing}
+use Rattle.std.specs.Prelude.{Bool, cond, not, ◌&&◌, Option, Some, None, List, [], ◌∷◌, ◌++◌, ℕ, zero, suc, ◌+◌, ◌*◌, ltb, eqb, length, drop, set, replicate}
 use Rattle.bits.specs.Fields.{field, bits_of, next_field}
 use Rattle.marks.specs.Cassettes.{given, cassette_fault}
-use Rattle.lifts.specs.Lifting.{most_shafts, slot_count}
+use Rattle.lifts.specs.Lifting.{most_shafts}
 use Rattle.store.specs.declared.Store.{Store}
-use Rattle.store.specs.Slots.{held}
+use Rattle.store.specs.Slots.{held, empty_store}
 use Rattle.image.specs.Coding.{meant}
 use Rattle.image.specs.Image.{form_width, frame_width, height_width, cassette_width, form_fault, own_depths}
 
@@ -16,10 +14,6 @@ use Rattle.image.specs.Image.{form_width, frame_width, height_width, cassette_wi
 pub record Reading : Type 0 where
   pub store : Store
   pub number : ℕ
-
--- a store of m shafts with no cassette
-abbrev pub empty_store : ℕ → List ℕ → Store
-empty_store m depths = held m depths (replicate most_shafts 0) (replicate slot_count 0)
 
 -- no depth read so far
 abbrev pub no_depths : List ℕ
@@ -46,9 +40,9 @@ abbrev pub Part : Type 0
 Part = List ℕ → Store → List Bool → Rest → Reading
 
 -- "2. The image ends before its last field does."
-abbrev pub from_field : Field → (ℕ → Reading) → Reading
-from_field (Value v) c = c v
-from_field Missing c = refused 2
+abbrev pub from_field : Option ℕ → (ℕ → Reading) → Reading
+from_field (Some v) c = c v
+from_field None c = refused 2
 
 -- the next field of w bits
 abbrev pub next : ℕ → List Bool → (ℕ → List Bool → Reading) → Reading

@@ -1,14 +1,13 @@
 -- Writing an image in the form that the caller names (document 02, 8/13: "Writing tests the store, then 1, 18, 10.").
-use Rattle.std.specs.Prelude.{List, ◌++◌, ◌≡◌, ℕ, zero, suc, ◌≤◌, not, ltb, length, drop}
+use Rattle.std.specs.Prelude.{List, ◌++◌, ◌≡◌, ℕ, zero, suc, ◌≤◌, not, ltb, length, drop, Result}
 use Rattle.store.specs.declared.Store.{Store}
 use Rattle.marks.specs.Cassettes.{given, first}
-use Rattle.lifts.specs.Numbers.{Only}
+use Rattle.lifts.specs.Numbers.{ResultIs}
 use Rattle.store.specs.Slots.{slot}
 use Rattle.store.specs.Accept.{store_fault}
-use Rattle.image.specs.declared.WriteAnswer.{WriteAnswer}
-use Rattle.image.specs.declared.Written.{Written}
+use Rattle.image.specs.declared.WriteFault.{WriteFault}
 use Rattle.image.specs.Image.{form_fault, length_in, image_in, EqualDepths, holds}
-use Rattle.image.specs.Numbers.{write_number}
+use Rattle.image.specs.Numbers.{write_fault_number}
 
 -- "18, a store to be written holds a cassette from 255 to 4,094 in form 0 or 1, or unequal depths in form 0": what `holds` tests, in these words
 -- (`eighteen`, proofs/Forms.antt)
@@ -36,13 +35,7 @@ abbrev pub count_after : ℕ → ℕ → Store → ℕ
 count_after zero f s = length_in f s
 count_after (suc k) f s = 0
 
--- A refusal gives its answer, counts no byte, and leaves the lent bytes as they came.
-pub record RefusedWrite (a : WriteAnswer) (came out : List ℕ) (r : Written) : Type 0 where
-  pub is : r ≡ record { count = 0; answer = a }
-  pub bytes : out ≡ came
-
--- Writing a store in form f into `out` gave the answer with its number and the count, and left the bytes `next`.
-pub record WriteIs (f : ℕ) (s : Store) (out next : List ℕ) (r : Written) : Type 0 where
-  pub answer : Only write_number (write_refusal f s (length out)) r.answer
-  pub count : r.count ≡ count_after (write_refusal f s (length out)) f s
+-- Writing a store in form f into `out` gave the count, or else the only fault with the number, and left the bytes `next`.
+pub record WriteIs (f : ℕ) (s : Store) (out next : List ℕ) (r : Result ℕ WriteFault) : Type 0 where
+  pub answer : ResultIs write_fault_number (write_refusal f s (length out)) (λ count. count ≡ length_in f s) r
   pub bytes : next ≡ bytes_after (write_refusal f s (length out)) f s out

@@ -3,22 +3,18 @@
 
 use depths::equal;
 use fields::form_in;
-use lifts::{Slots, slot_at};
+use lifts::Slots;
 use marks::{Cassette, blank};
-use numbers::{read_number, write_number};
+use numbers::Numbered;
 use reading::read;
 use std::io;
 use store::Store;
 use writing::write;
 
-fn say(rt: &impl Print, what: &str, number: u64) -> io::Result<()> {
-    print!(rt; "{what}{number}")
-}
-
 // The first n bytes, or all where there are fewer, and the end of the line.
 fn say_bytes(rt: &impl Print, bytes: &[u8], n: usize) -> io::Result<()> {
     for b in bytes.iter().take(n) {
-        say(rt, " ", *b as u64)?;
+        print!(rt; " {b}")?;
     }
     println!(rt)
 }
@@ -26,48 +22,38 @@ fn say_bytes(rt: &impl Print, bytes: &[u8], n: usize) -> io::Result<()> {
 // The slots as far as row 1 of shaft 2.
 fn say_slots(rt: &impl Print, slots: &Slots) -> io::Result<()> {
     print!(rt; "  slots")?;
-    for i in 0..33 {
-        say(rt, " ", slot_at(slots, i) as u64)?;
+    for c in slots.iter().take(33) {
+        print!(rt; " {c}")?;
     }
     println!(rt)
 }
 
 // m shafts of depth h with no cassette.
 fn empty(m: u8, h: u8) -> Store {
-    let depths = equal(m, h);
-    Store {
-        m,
-        depths,
-        heights: [0u8; 16],
-        slots: [0u16; 256],
-    }
+    Store::empty(m, equal(m, h))
 }
 
 // The frame of a store as far as shaft 3, its first heights, and its slots as far as row 1 of shaft 2.
 fn say_store(rt: &impl Print, s: Store) -> io::Result<()> {
-    say(rt, "  m ", s.m as u64)?;
-    let depths = s.depths;
-    let heights = s.heights;
-    let slots = s.slots;
-    print!(rt; "  depths")?;
-    say_bytes(rt, &depths, 4)?;
+    let m = s.m;
+    print!(rt; "  m {m}  depths")?;
+    say_bytes(rt, &s.depths, 4)?;
     print!(rt; "  heights")?;
-    say_bytes(rt, &heights, 3)?;
-    say_slots(rt, &slots)
+    say_bytes(rt, &s.heights, 3)?;
+    say_slots(rt, &s.slots)
 }
 
 // Reads an image, and prints its number, the store handed back, and the bytes that this store is written as in the form that the image names: where the image is
 // accepted its own; else those of the empty store of one shaft of depth 1, or none where there is no such form.
 fn shown(rt: &impl Print, what: &str, image: &[u8]) -> io::Result<()> {
     let got = read(image);
-    let answer = got.answer;
-    say(rt, what, read_number(answer) as u64)?;
-    let s = got.store;
-    say_store(rt, s)?;
+    let number = got.answer.number();
+    print!(rt; "{what}{number}")?;
+    say_store(rt, got.store)?;
     let mut out = [255u8; 500];
-    let done = write(form_in(image), s, &mut out);
+    let count = write(form_in(image), got.store, &mut out).unwrap_or(0);
     print!(rt; "  written as")?;
-    say_bytes(rt, &out, done.count)
+    say_bytes(rt, &out, count)
 }
 
 // Reads the first n bytes, where there are as many.
@@ -80,12 +66,11 @@ fn read_back(rt: &impl Print, out: &[u8], n: usize) -> io::Result<()> {
 
 // Writes a store in a form, and prints the number, the count, and the lent bytes: the image and two more, which are as they came.
 fn written(rt: &impl Print, what: &str, form: u8, s: Store, out: &mut [u8]) -> io::Result<()> {
-    let done = write(form, s, out);
-    let answer = done.answer;
-    let n = done.count;
-    say(rt, what, write_number(answer) as u64)?;
-    say(rt, "  count ", n as u64)?;
-    print!(rt; "  lent bytes")?;
+    let (number, n) = match write(form, s, out) {
+        Ok(count) => (0, count),
+        Err(f) => (f.number(), 0),
+    };
+    print!(rt; "{what}{number}  count {n}  lent bytes")?;
     if n < 500 {
         say_bytes(rt, out, n + 2)?;
     }

@@ -1,11 +1,11 @@
 -- Laws of the test of every number below a bound.
 use mathlib.Core.Bool.{Bool, true, false}
-use mathlib.Core.Path.{◌≡◌, refl, sym, ◌∙◌}
+use mathlib.Core.Path.{◌≡◌, refl}
 use Prim.Native.Nat.{ℕ, zero, suc, ◌<◌}
 use native.Mathlib.Nat.{not-suc-le-zero}
 use native.Mathlib.Decide.{ℕ_discrete}
 use native.Mathlib.Omega.{arith}
-use Rattle.marks.proofs.Faulted.{both_true}
+use Rattle.std.proofs.lemmas.Bool.{and_parts}
 use Rattle.in_place.specs.InPlace.{all_below}
 
 pub all_true : (n : ℕ) (p : ℕ → Bool) → all_below n p ≡ true → (k : ℕ) → k < n → p k ≡ true
@@ -13,8 +13,8 @@ unfolding all_below
 all_true zero p e k h = absurd (not-suc-le-zero h)
 all_true (suc n) p e k h =
     elim (ℕ_discrete k n) [
-      | yes q ↦ rw q (both_true (all_below n p) (p n) e).1
-      | no q ↦ all_true n p (both_true (all_below n p) (p n) e).0 k (omega arith)
+      | yes q ↦ rw q (and_parts (all_below n p) (p n) e).1
+      | no q ↦ all_true n p (and_parts (all_below n p) (p n) e).0 k (omega arith)
     ]
 
 pub all_of : (n : ℕ) (p : ℕ → Bool) → ((k : ℕ) → k < n → p k ≡ true) → all_below n p ≡ true
@@ -32,5 +32,5 @@ pub all_fails : (n : ℕ) (p : ℕ → Bool) (k : ℕ) → k < n → p k ≡ fal
 all_fails n p k h e = go (all_below n p) refl
   where
     go : (t : Bool) → all_below n p ≡ t → all_below n p ≡ false
-    go true q = absurd (let z : ◌≡◌ {A = Bool} true false = sym (all_true n p q k h) ∙ e in let y : ◌≡◌ {A = ℕ} 0 1 = cc in omega arith)
+    go true q = absurd (cc (all_true n p q k h))
     go false q = q

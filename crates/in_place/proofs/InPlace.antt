@@ -7,23 +7,17 @@ use Prim.Native.Nat.{ℕ, suc, ◌≤◌, ◌<◌}
 use native.Mathlib.Decide.{dec_lt}
 use native.Mathlib.Omega.{arith}
 use lib.Dec.{leb, eqb}
-use Rattle.marks.proofs.Faulted.{both_true}
+use Rattle.std.proofs.lemmas.Bool.{and_parts}
 use Rattle.lifts.specs.Lifting.{most_rows, height_in, shown}
 use Rattle.depths.specs.Depths.{depth_by}
 use Rattle.in_place.specs.InPlace.{in_range, depth_in_place, all_below, fillable, slot_in_place, rows_in_place}
 use Rattle.in_place.proofs.AllBelow.{all_true, all_of, all_fails}
 
-pub none_zero : (k : ℕ) → k ≡ 0 → in_range k ≡ false
-none_zero k e = simp (le-ltb 0 k (omega arith))
-
 pub range_true : (k : ℕ) → 0 < k → k ≤ 16 → in_range k ≡ true
 range_true k h i = simp (lt-ltb 0 k h, le-leb k 16 i)
 
-pub range_some : (k : ℕ) → 0 < k → leb k 16 ≡ in_range k
-range_some k h = sym (simp (lt-ltb 0 k h))
-
 pub range : (k : ℕ) → in_range k ≡ true → (0 < k) × (k ≤ 16)
-range k e = let p = both_true _ _ e in (ltb-true 0 k p.0, leb-true k 16 p.1)
+range k e = let p = and_parts _ _ e in (ltb-true 0 k p.0, leb-true k 16 p.1)
 
 and_false : (t : Bool) → (t && false) ≡ false
 and_false true = refl
@@ -56,7 +50,7 @@ module _ (m : ℕ) (heights slots : List ℕ) (x : ℕ) where
   module _ (e : rows_in_place m heights slots x ≡ true) where
     halves : (leb (height_in heights x) (fillable m heights x) ≡ true) × (all_below most_rows (slot_in_place m heights slots x) ≡ true)
     unfolding rows_in_place
-    halves = both_true (leb (height_in heights x) (fillable m heights x)) (all_below most_rows (slot_in_place m heights slots x)) e
+    halves = and_parts (leb (height_in heights x) (fillable m heights x)) (all_below most_rows (slot_in_place m heights slots x)) e
 
     pub height_beyond : m ≤ x → height_in heights x ≡ 0
     height_beyond h = omega (arith, leb-true (height_in heights x) (fillable m heights x) halves.0, fillable_beyond h)

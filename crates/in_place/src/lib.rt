@@ -30,12 +30,10 @@ fn rows_in_place(m: u8, heights: &Heights, slots: &Slots, x: usize) -> bool
     if rows < height_at(heights, x) as usize {
         return false;
     }
-    let mut k = rows;
-    while k < 16 {
+    for k in rows..16 {
         if slot_at(slots, 16 * x + k) != 0 {
             return false;
         }
-        k += 1;
     }
     true
 }
@@ -44,10 +42,7 @@ fn rows_in_place(m: u8, heights: &Heights, slots: &Slots, x: usize) -> bool
 fn in_range(k: u8) -> bool
     ensures { result ≡ in_range k }
 {
-    if k == 0 {
-        return false;
-    }
-    k <= 16
+    0 < k && k <= 16
 }
 
 // Whether the depth of a shaft is in range, or none is recorded where the shaft is not below m.
@@ -62,21 +57,16 @@ fn shaft_in_place(m: u8, depths: Depths, heights: &Heights, slots: &Slots, x: us
     requires { x < most_shafts }
     ensures { result ≡ shaft_in_place m depths heights.now slots.now x }
 {
-    if !depth_in_place(m, depths, x) {
-        return false;
-    }
-    rows_in_place(m, heights, slots, x)
+    depth_in_place(m, depths, x) && rows_in_place(m, heights, slots, x)
 }
 
 fn shafts_in_place(m: u8, depths: Depths, heights: &Heights, slots: &Slots) -> bool
     ensures { result ≡ all_below most_shafts (shaft_in_place m depths heights.now slots.now) }
 {
-    let mut x: usize = 0;
-    while x < 16 {
+    for x in 0..16 {
         if !shaft_in_place(m, depths, heights, slots, x) {
             return false;
         }
-        x += 1;
     }
     true
 }
@@ -85,8 +75,5 @@ fn shafts_in_place(m: u8, depths: Depths, heights: &Heights, slots: &Slots) -> b
 pub fn arrays_in_place(m: u8, depths: Depths, heights: &Heights, slots: &Slots) -> bool
     ensures { result ≡ arrays_in_place m depths heights.now slots.now }
 {
-    if !in_range(m) {
-        return false;
-    }
-    shafts_in_place(m, depths, heights, slots)
+    in_range(m) && shafts_in_place(m, depths, heights, slots)
 }

@@ -3,7 +3,8 @@ use borrow.Author.Tests.{ltb-true, leb-false, eqb-false, lt-ltb, le-ltb, le-leb,
 use mathlib.Core.Path.{◌≡◌}
 use Prim.Native.Nat.{ℕ, ◌≤◌, ◌<◌}
 use native.Mathlib.Omega.{arith}
-use Rattle.marks.proofs.Faulted.{first_none, not_given, given_none, both_true}
+use Rattle.std.proofs.lemmas.Bool.{and_parts}
+use Rattle.marks.proofs.Faulted.{first_none, not_given, given_none}
 use Rattle.lifts.specs.Lifting.{refusal_by}
 
 module _ (m d a b left entered : ℕ) where
@@ -38,7 +39,7 @@ module _ (m d a b left entered : ℕ) where
   refused_none e =
       let p = first_none _ _ e in
       let q = first_none _ _ p.1 in
-      let r = both_true _ _ (not_given _ 10 p.0) in
-      let t = both_true _ _ r.0 in
+      let r = and_parts _ _ (not_given _ 10 p.0) in
+      let t = and_parts _ _ r.0 in
       let n : left ≡ 0 → ⊥ = eqb-false left 0 (given_none _ 12 q.0) in
       (ltb-true a m t.0, ltb-true b m t.1, eqb-false a b (not-true _ r.1), omega arith, leb-false d entered (given_none _ 13 q.1))

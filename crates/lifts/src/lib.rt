@@ -2,7 +2,7 @@
 // and the lift made in place.
 #![tactic(auto)]
 
-ghost use Rattle.std.specs.Prelude.{◌≡◌, ◌<◌, length, get_or};
+ghost use Rattle.std.specs.Prelude.{◌≡◌, ◌<◌, get_or};
 ghost use Rattle.lifts.specs.Carried.{CanCarry, CarriedIs};
 ghost use Rattle.lifts.specs.Lifting.{most_shafts, slot_count, height_in, refusal_by};
 ghost use Rattle.lifts.specs.Numbers.{Only, judged_number};
@@ -30,33 +30,20 @@ pub enum Refusal {
     Full,
 }
 
-// Whether a lift is allowed.
-#[derive(Clone, Copy)]
-pub enum Judged {
-    Allowed,
-    Refused(Refusal),
-}
-
 // Whether a lift between two shafts of m, with these heights, the second of depth d, is allowed, or else why not.
-pub fn judge(m: u8, d: u8, from: Shaft, to: Shaft, left: u8, entered: u8) -> Judged
+pub fn judge(m: u8, d: u8, from: Shaft, to: Shaft, left: u8, entered: u8) -> Result<(), Refusal>
     ensures { Only judged_number (refusal_by m d from.0 to.0 left entered) result }
 {
-    if m <= from.0 {
-        return Judged::Refused(Refusal::Shafts);
-    }
-    if m <= to.0 {
-        return Judged::Refused(Refusal::Shafts);
-    }
-    if from.0 == to.0 {
-        return Judged::Refused(Refusal::Shafts);
+    if m <= from.0 || m <= to.0 || from.0 == to.0 {
+        return Err(Refusal::Shafts);
     }
     if left == 0 {
-        return Judged::Refused(Refusal::Empty);
+        return Err(Refusal::Empty);
     }
     if d <= entered {
-        return Judged::Refused(Refusal::Full);
+        return Err(Refusal::Full);
     }
-    Judged::Allowed
+    Ok(())
 }
 
 // The height of a shaft.
@@ -69,11 +56,9 @@ pub fn height_at(heights: &Heights, x: usize) -> u8
 
 // The height of a shaft; 0 for a shaft above 15.
 pub fn height_of(heights: &Heights, x: Shaft) -> u8
-    requires { length heights.now ≡ most_shafts }
     ensures { result ≡ height_in heights.now x.0 }
 {
-    let i = x.0 as usize;
-    if i < 16 { heights[i] } else { 0 }
+    heights.get(x.0 as usize).copied().unwrap_or(0)
 }
 
 // The slot at a place.

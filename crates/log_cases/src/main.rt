@@ -5,18 +5,13 @@
 use depths::equal;
 use lifts::{Row, Shaft};
 use logs::follow;
-use numbers::log_end_number;
+use numbers::Numbered;
 use std::io;
 use store::Store;
 
 // Three shafts of depth 2: [1 2] [] [3]
 fn example() -> Store {
-    let mut s = Store {
-        m: 3,
-        depths: equal(3, 2),
-        heights: [0u8; 16],
-        slots: [0u16; 256],
-    };
+    let mut s = Store::empty(3, equal(3, 2));
     s.heights[0] = 2;
     s.heights[2] = 1;
     s.slots[0] = 1;
@@ -39,34 +34,24 @@ fn with_zero() -> Store {
 }
 
 fn with_no_shaft() -> Store {
-    let mut s = example();
-    s.m = 0;
-    s
+    Store { m: 0, ..example() }
 }
 
-fn say(rt: &impl Print, what: &str, number: u64) -> io::Result<()> {
-    print!(rt; "{what}{number}")
-}
-
-// What a shaft shows, from row 1.
-fn say_shaft(rt: &impl Print, s: Store, x: u8) -> io::Result<()> {
-    say(rt, " [", s.content(Shaft(x), Row(1)) as u64)?;
-    say(rt, " ", s.content(Shaft(x), Row(2)) as u64)?;
-    print!(rt; "]")
-}
-
+// What came of a log, and what the three shafts show, each from row 1.
 fn show(rt: &impl Print, what: &str, s: Store, log: &[u8]) -> io::Result<()> {
     let followed = follow(s, log);
-    let end = followed.end;
     let reached = followed.store;
-    print!(rt; "{what}")?;
-    say(rt, ": entry ", followed.entry as u64)?;
-    say(rt, ", number ", log_end_number(end) as u64)?;
-    say(rt, ", m ", reached.m as u64)?;
-    print!(rt; ":")?;
-    say_shaft(rt, reached, 0)?;
-    say_shaft(rt, reached, 1)?;
-    say_shaft(rt, reached, 2)?;
+    print!(rt;
+        "{what}: entry {}, number {}, m {}:",
+        followed.entry,
+        followed.end.number(),
+        reached.m
+    )?;
+    for x in 0..3 {
+        let low = reached.content(Shaft(x), Row(1));
+        let high = reached.content(Shaft(x), Row(2));
+        print!(rt; " [{low} {high}]")?;
+    }
     println!(rt)
 }
 

@@ -2,26 +2,20 @@
 use mathlib.Core.Path.{◌≡◌, refl}
 use Prim.Native.Nat.{ℕ}
 use Rattle.lifts.specs.Numbers.{Only}
-use Rattle.lifts.proofs.Numbered.{only_by}
-use Rattle.store.specs.declared.Fault.TheVariants.{OutOfPlace, TooHigh, NoCassette, Twice}
-use Rattle.store.proofs.Numbered as store
-use Rattle.entries.proofs.Numbered as entries
-use Rattle.logs.specs.declared.LogEnd.{LogEnd}
+use Rattle.replay.specs.declared.End.{End}
+use Rattle.replay.proofs.Ends.{run_told, only_run}
+use Rattle.entries.specs.declared.Untrue.{Untrue}
+use Rattle.entries.specs.declared.Untrue.TheVariants.{Malformed, ShaftEmpty, ShaftFull, WrongNumber}
+use Rattle.entries.specs.Numbers.{untrue_number}
+use Rattle.entries.proofs.Numbered.{untrue_told}
 use Rattle.logs.specs.Numbers.{log_end_number}
 
--- the end with a number that is no entry's
-other : ℕ → LogEnd
-unfolding store.told
-other = store.told LogEnd.AllTrue LogEnd.StoreRefused (λ r. LogEnd.AllTrue)
-
-pub only_end : {k : ℕ} {e : LogEnd} → log_end_number e ≡ k → Only log_end_number k e
-unfolding entries.told other
-only_end = only_by (entries.told LogEnd.Stopped other) each
+pub only_end : {k : ℕ} {e : End Untrue} → log_end_number e ≡ k → Only log_end_number k e
+unfolding run_told untrue_told
+only_end = only_run untrue_number untrue_told stopped
   where
-    each : (e : LogEnd) → entries.told LogEnd.Stopped other (log_end_number e) ≡ e
-    each LogEnd.AllTrue = refl
-    each (LogEnd.Stopped u) = entries.told_untrue LogEnd.Stopped other u
-    each (LogEnd.StoreRefused OutOfPlace) = refl
-    each (LogEnd.StoreRefused TooHigh) = refl
-    each (LogEnd.StoreRefused NoCassette) = refl
-    each (LogEnd.StoreRefused Twice) = refl
+    stopped : (u : Untrue) → run_told untrue_told (untrue_number u) ≡ End.Stopped u
+    stopped Malformed = refl
+    stopped ShaftEmpty = refl
+    stopped ShaftFull = refl
+    stopped WrongNumber = refl

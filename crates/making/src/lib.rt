@@ -9,8 +9,8 @@ ghost use Rattle.making.specs.Made.{MadeIs};
 
 use agreeing::agreeing;
 use empties::empty_slots;
-use lifts::{Shaft, Slots, slot_at};
-use moves::{Hints, put_shift};
+use lifts::{Shaft, Slots};
+use moves::{Hints, Work, put_shift};
 use rooms::Frame;
 use rounds::play_all;
 use store::Store;
@@ -35,12 +35,8 @@ fn hints_of(m: u8, slots: &Slots) -> Hints
     requires { m ≤ 16 }
 {
     let mut hints: Hints = [0; 4096];
-    let mut p: usize = 0;
-    let end = 16 * (m as usize);
-    while p < end {
-        let v = slot_at(slots, p) as usize;
-        hints[v % 4096] = p as u8;
-        p += 1;
+    for p in 0..16 * (m as usize) {
+        hints[slots[p] as usize % 4096] = p as u8;
     }
     hints
 }
@@ -56,22 +52,16 @@ fn make_three(start: Store, goal: Store, out: &mut [u8]) -> usize
     let depths = start.depths;
     let e = empty_slots(start) as usize;
     let f = Frame { m, depths, e };
-    let tops = goal.heights;
-    let aims = goal.slots;
-    let mut heights = start.heights;
-    let mut slots = start.slots;
-    let mut done = agreeing(f, heights, &slots, tops, &aims);
-    let mut hints = hints_of(m, &slots);
-    play_all(
-        f,
-        tops,
-        &aims,
-        &mut done,
-        &mut heights,
-        &mut slots,
-        &mut hints,
-        out,
-    )
+    let heights = start.heights;
+    let slots = start.slots;
+    let hints = hints_of(m, &slots);
+    let mut work = Work {
+        heights,
+        slots,
+        hints,
+    };
+    let mut done = agreeing(f, &start, &goal);
+    play_all(f, &goal, &mut done, &mut work, out)
 }
 
 // The list, by the number of shafts.

@@ -8,19 +8,21 @@ use native.Mathlib.Decide.{ℕ_discrete}
 use native.Mathlib.Omega.{arith}
 use lib.Dec.{eqb, ltb}
 use lib.ListN.{length}
+use Rattle.std.specs.Prelude.{Ok, Err}
 use Rattle.stacks.specs.Count.{count, one}
 use Rattle.stacks.proofs.Counts.{count_last}
-use Rattle.marks.specs.declared.Taken.TheVariants.{Added, NoCassette, Twice}
+use Rattle.marks.specs.declared.CassetteFault.TheVariants.{NoCassette, Twice}
 use Rattle.marks.specs.Cassettes.{numbers, blank, is_blank, is_cassette, Once, given, cassette_fault}
 use Rattle.marks.specs.Marking.{mark_words, no_marks, marked, with_mark, with_cassette, with_marks, others, marks_of, mark_count, Marked}
 use Rattle.marks.specs.Taking.{TakenIs}
-use Rattle.marks.proofs.Faulted.{first_none, first_either, given_either, given_none, not_given, both_true}
+use Rattle.std.proofs.lemmas.Bool.{and_parts}
+use Rattle.marks.proofs.Faulted.{first_none, first_either, given_either, given_none, not_given}
 use Rattle.marks.proofs.MarkLaws.{with_more, marked_exactly, count_of}
 use Rattle.marks.proofs.Others.{no_other_blank, others_last, others_count, others_fewer, no_blank, others_length}
 
 -- a cassette's number is one of 1 to 4,095
 pub cassette_range : (c : ℕ) → is_cassette c ≡ true → (0 < c) × (c < numbers)
-cassette_range c e = let p = both_true (ltb 0 c) (ltb c numbers) e in (ltb-true 0 c p.0, ltb-true c numbers p.1)
+cassette_range c e = let p = and_parts (ltb 0 c) (ltb c numbers) e in (ltb-true 0 c p.0, ltb-true c numbers p.1)
 
 pub range_cassette : (c : ℕ) → (c ≡ 0 → ⊥) → c < numbers → is_cassette c ≡ true
 range_cassette c n h = simp (lt-ltb 0 c (omega arith), lt-ltb c numbers h)
@@ -94,7 +96,7 @@ marked_more words l c m h z = record {
 
 -- the answers of taking a cassette
 module _ (words : List ℕ) (c : ℕ) where
-  pub none_is : is_cassette c ≡ false → TakenIs words c words NoCassette
+  pub none_is : is_cassette c ≡ false → TakenIs words c words (Err NoCassette)
   unfolding cassette_fault
   none_is e = record {
     number = sym (simp e);
@@ -107,7 +109,7 @@ module _ (words : List ℕ) (c : ℕ) where
     h : c < numbers
     h = (cassette_range c n).1
 
-    pub twice_is : eqb (marked words c) 1 ≡ true → TakenIs words c words Twice
+    pub twice_is : eqb (marked words c) 1 ≡ true → TakenIs words c words (Err Twice)
     unfolding cassette_fault
     twice_is t = record {
       number = sym (simp (n, t));
@@ -118,7 +120,7 @@ module _ (words : List ℕ) (c : ℕ) where
       marks = λ before m. refl;
     }
 
-    pub added_is : eqb (marked words c) 1 ≡ false → TakenIs words c (with_cassette words c) Added
+    pub added_is : eqb (marked words c) 1 ≡ false → TakenIs words c (with_cassette words c) (Ok tt)
     added_is t =
         let z : (before : List ℕ) → Marked words before → is_blank c ≡ false → count c before ≡ 0 = λ before m b. mark_missing words before c m h b t in
         record {

@@ -70,26 +70,25 @@ fn mark(words: &mut Words, c: Cassette)
     words[i] = word(words, i) | (one << k);
 }
 
-// Whether one cassette more was added to others, or why not: 4, 5.
+// Why one cassette more is not added to others: 4, 5.
 #[derive(Clone, Copy)]
-pub enum Taken {
-    Added,
+pub enum CassetteFault {
     NoCassette,
     Twice,
 }
 
 // Takes one cassette more: its fault, or the marks with it.
-pub fn take(words: &mut Words, c: Cassette) -> Taken
+pub fn take(words: &mut Words, c: Cassette) -> Result<(), CassetteFault>
     ensures { TakenIs words.old c words.new result }
 {
     if !is_cassette(c) {
-        return Taken::NoCassette;
+        return Err(CassetteFault::NoCassette);
     }
     if has(words, c) {
-        return Taken::Twice;
+        return Err(CassetteFault::Twice);
     }
     mark(words, c);
-    Taken::Added
+    Ok(())
 }
 
 // How many bits of a word are set.
@@ -104,11 +103,9 @@ fn ones_of(w: u64) -> usize
 pub fn count(words: Words) -> usize
     ensures { result ≡ mark_count words }
 {
-    let mut n: usize = 0;
-    let mut i: usize = 0;
-    while i < 64 {
-        n += ones_of(words[i]);
-        i += 1;
+    let mut n = 0;
+    for w in &words {
+        n += ones_of(*w);
     }
     n
 }
@@ -117,12 +114,5 @@ pub fn count(words: Words) -> usize
 pub fn same(a: Words, b: Words) -> bool
     ensures { Decides result (a ≡ b) }
 {
-    let mut j: usize = 0;
-    while j < 64 {
-        if a[j] != b[j] {
-            return false;
-        }
-        j += 1;
-    }
-    true
+    a == b
 }

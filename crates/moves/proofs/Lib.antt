@@ -2,4 +2,3 @@ pub mod Carrying
 pub mod Moved
 pub mod Stepping
 pub mod Writing
-pub mod Wrote

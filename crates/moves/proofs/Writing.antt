@@ -1,4 +1,4 @@
--- Laws of `written`: nothing, one list after another, one byte more, and that the length stays.
+-- Laws of `written`: nothing, one list after another, one byte, and that the length stays.
 use mathlib.Core.List.{List, [], ◌∷◌, ◌++◌, append_assoc}
 use mathlib.Core.Path.{◌≡◌, sym, ap, ap₂, ◌∙◌}
 use Prim.Native.Nat.{ℕ, ◌+◌, ◌≤◌, ◌<◌}
@@ -50,9 +50,3 @@ followed came at k l e n f h =
 pub set_written : (came : List ℕ) (at b : ℕ) → at < length came → set came at b ≡ written came at (b ∷ [])
 unfolding written
 set_written came at b h = rw add-one (set_split came at b h)
-
-pub written_more : (came : List ℕ) (at : ℕ) (l : List ℕ) (b : ℕ) → at + length l < length came
-    → set (written came at l) (at + length l) b ≡ written came at (l ++ (b ∷ []))
-written_more came at l b h =
-    set_written (written came at l) (at + length l) b (omega (arith, length_written came at l (omega arith)))
-    ∙ written_then came at l (b ∷ []) (omega arith)

@@ -1,115 +1,127 @@
-// The number of document 01, or of document 02, for each answer on one store, 0 where nothing is refused. The definitions
-// are in specs/Numbers.antt of the crate of each answer.
+// The number of document 01, or of document 02, for each refusal and for each answer, 0 where nothing is refused. The definitions are in specs/Numbers.antt
+// of the crate of each; that of a result is `result_number` in marks/specs/Taking.antt, that of an end `run_number` in replay/specs/Numbers.antt.
 #![tactic(auto)]
 
-ghost use Rattle.std.specs.Prelude.{◌≡◌};
+ghost use Rattle.std.specs.Prelude.{◌≡◌, ℕ};
+ghost use Rattle.marks.specs.Taking.{result_number};
 ghost use Rattle.lifts.specs.Numbers.{refusal_number};
-ghost use Rattle.store.specs.Numbers.{fault_number, verdict_number, answer_number};
-ghost use Rattle.replay.specs.Numbers.{end_number};
+ghost use Rattle.store.specs.Numbers.{fault_number, lift_fault_number};
+ghost use Rattle.replay.specs.Numbers.{run_number};
 ghost use Rattle.entries.specs.Numbers.{untrue_number};
-ghost use Rattle.logs.specs.Numbers.{log_end_number};
-ghost use Rattle.image.specs.Numbers.{read_number, write_number};
+ghost use Rattle.image.specs.Numbers.{read_fault_number, write_fault_number};
 
 use entries::Untrue;
-use image::{ReadAnswer, WriteAnswer};
+use image::{ReadFault, WriteFault};
 use lifts::Refusal;
-use logs::LogEnd;
 use replay::End;
-use store::{Answer, Fault, Verdict};
+use store::{Fault, LiftFault};
 
-pub fn refusal_number(r: Refusal) -> u8
-    ensures { result ≡ refusal_number r }
-{
-    match r {
-        Refusal::Shafts => 11,
-        Refusal::Empty => 13,
-        Refusal::Full => 14,
+// What has a number: a refusal, or an answer that may be one.
+pub trait Numbered {
+    ghost number: { Self → ℕ };
+
+    fn number(self) -> u8
+        ensures { result ≡ number self };
+}
+
+impl Numbered for Refusal {
+    ghost number = { refusal_number };
+
+    fn number(self) -> u8 {
+        match self {
+            Refusal::Shafts => 11,
+            Refusal::Empty => 13,
+            Refusal::Full => 14,
+        }
     }
 }
 
-pub fn fault_number(f: Fault) -> u8
-    ensures { result ≡ fault_number f }
-{
-    match f {
-        Fault::OutOfPlace => 12,
-        Fault::TooHigh => 3,
-        Fault::NoCassette => 4,
-        Fault::Twice => 5,
+impl Numbered for Fault {
+    ghost number = { fault_number };
+
+    fn number(self) -> u8 {
+        match self {
+            Fault::OutOfPlace => 12,
+            Fault::TooHigh => 3,
+            Fault::NoCassette => 4,
+            Fault::Twice => 5,
+        }
     }
 }
 
-pub fn verdict_number(v: Verdict) -> u8
-    ensures { result ≡ verdict_number v }
-{
-    match v {
-        Verdict::Accepted => 0,
-        Verdict::Refused(f) => fault_number(f),
+impl Numbered for LiftFault {
+    ghost number = { lift_fault_number };
+
+    fn number(self) -> u8 {
+        match self {
+            LiftFault::StoreRefused(f) => f.number(),
+            LiftFault::LiftRefused(r) => r.number(),
+        }
     }
 }
 
-pub fn answer_number(a: Answer) -> u8
-    ensures { result ≡ answer_number a }
-{
-    match a {
-        Answer::Done => 0,
-        Answer::StoreRefused(f) => fault_number(f),
-        Answer::LiftRefused(r) => refusal_number(r),
+impl Numbered for Untrue {
+    ghost number = { untrue_number };
+
+    fn number(self) -> u8 {
+        match self {
+            Untrue::Malformed => 19,
+            Untrue::ShaftEmpty => 13,
+            Untrue::ShaftFull => 14,
+            Untrue::WrongNumber => 20,
+        }
     }
 }
 
-pub fn end_number(e: End) -> u8
-    ensures { result ≡ end_number e }
-{
-    match e {
-        End::RunThrough => 0,
-        End::Stopped(r) => refusal_number(r),
-        End::StoreRefused(f) => fault_number(f),
+impl Numbered for ReadFault {
+    ghost number = { read_fault_number };
+
+    fn number(self) -> u8 {
+        match self {
+            ReadFault::WrongForm => 1,
+            ReadFault::Short => 2,
+            ReadFault::TooHigh => 3,
+            ReadFault::NumberZero => 4,
+            ReadFault::Twice => 5,
+            ReadFault::Padding => 7,
+        }
     }
 }
 
-pub fn untrue_number(u: Untrue) -> u8
-    ensures { result ≡ untrue_number u }
-{
-    match u {
-        Untrue::Malformed => 19,
-        Untrue::ShaftEmpty => 13,
-        Untrue::ShaftFull => 14,
-        Untrue::WrongNumber => 20,
+impl Numbered for WriteFault {
+    ghost number = { write_fault_number };
+
+    fn number(self) -> u8 {
+        match self {
+            WriteFault::StoreRefused(f) => f.number(),
+            WriteFault::WrongForm => 1,
+            WriteFault::CannotHold => 18,
+            WriteFault::NoRoom => 10,
+        }
     }
 }
 
-pub fn log_end_number(e: LogEnd) -> u8
-    ensures { result ≡ log_end_number e }
-{
-    match e {
-        LogEnd::AllTrue => 0,
-        LogEnd::Stopped(u) => untrue_number(u),
-        LogEnd::StoreRefused(f) => fault_number(f),
+// The end of a replay, or of a log that is followed.
+impl<R: Numbered> Numbered for End<R> {
+    ghost number = { run_number R.number };
+
+    fn number(self) -> u8 {
+        match self {
+            End::RunThrough => 0,
+            End::Stopped(r) => r.number(),
+            End::StoreRefused(f) => f.number(),
+        }
     }
 }
 
-pub fn read_number(a: ReadAnswer) -> u8
-    ensures { result ≡ read_number a }
-{
-    match a {
-        ReadAnswer::Accepted => 0,
-        ReadAnswer::WrongForm => 1,
-        ReadAnswer::Short => 2,
-        ReadAnswer::TooHigh => 3,
-        ReadAnswer::NumberZero => 4,
-        ReadAnswer::Twice => 5,
-        ReadAnswer::Padding => 7,
-    }
-}
+// An answer that is yes, or refused.
+impl<E: Numbered> Numbered for Result<(), E> {
+    ghost number = { result_number E.number };
 
-pub fn write_number(a: WriteAnswer) -> u8
-    ensures { result ≡ write_number a }
-{
-    match a {
-        WriteAnswer::Whole => 0,
-        WriteAnswer::StoreRefused(f) => fault_number(f),
-        WriteAnswer::WrongForm => 1,
-        WriteAnswer::CannotHold => 18,
-        WriteAnswer::NoRoom => 10,
+    fn number(self) -> u8 {
+        match self {
+            Ok(()) => 0,
+            Err(e) => e.number(),
+        }
     }
 }

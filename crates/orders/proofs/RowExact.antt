@@ -4,7 +4,8 @@ use mathlib.Core.Path.{◌≡◌, refl, sym, ap, ◌∙◌}
 use native.Mathlib.Decide.{ℕ_discrete}
 use native.Mathlib.Omega.{arith}
 use Rattle.store.specs.declared.Store.{Store}
-use Rattle.store.specs.declared.Verdict.{Verdict}
+use Rattle.std.specs.Prelude.{Result}
+use Rattle.store.specs.declared.Fault.{Fault}
 use Rattle.store.specs.Accept.{store_fault, Accepted}
 use Rattle.uncovering.specs.Numbers.{uncovering_number, uncovering_lifts}
 use Rattle.uncovering.proofs.Exact.{uncovering_exact}
@@ -24,7 +25,7 @@ module _ (s : Store) (p : Accepted s) where
   row_exact none none = refl
   row_exact (next x r) (next y t) = λ i. order_exact x y i ∷ row_exact r t i
 
-pub uncover_exact : (s : Store) {came a b : List Order} {v w : Verdict} → UncoverIs s came v a → UncoverIs s came w b → (v ≡ w) × (a ≡ b)
+pub uncover_exact : (s : Store) {came a b : List Order} {v w : Result Unit Fault} → UncoverIs s came v a → UncoverIs s came w b → (v ≡ w) × (a ≡ b)
 uncover_exact s x y = (
   y.verdict.alone _ x.verdict.has,
   elim (ℕ_discrete (store_fault s) 0) [

@@ -1,8 +1,8 @@
 -- A row of orders that is answered from the front: `Upto s i came ys` says that the first i orders of came have their answers in ys, and that the rest are as they came.
---     upto-length      ys is as long as came.        upto_next      the next order is as it came.        upto_step      it receives its answer
---     upto-end         once i is the whole length, each order has its answer
+--     upto_next      the next order is as it came.        upto_step      it receives its answer
+--     upto_end       once i is the whole length, each order has its answer
 -- Assumes nothing.
-use mathlib.Core.Path.{◌≡◌, refl, sym, ap}
+use mathlib.Core.Path.{◌≡◌, refl, sym}
 use mathlib.Core.List.{List, [], ◌∷◌}
 use Prim.Native.Nat.{ℕ, zero, suc, ◌<◌}
 use native.Mathlib.Nat.{not-suc-le-zero, le_of_suc-le-suc, suc_inj, suc-ne-zero}
@@ -14,10 +14,6 @@ use Rattle.orders.specs.Orders.{OrderIs, RowIs, none as row_none, next as row_ne
 pub data Upto (s : Store) : ℕ → List Order → List Order → Type 0 where
   none : {os : List Order} → Upto s zero os os
   next : {i : ℕ} {o p : Order} {os ps : List Order} → OrderIs s o p → Upto s i os ps → Upto s (suc i) (o ∷ os) (p ∷ ps)
-
-pub upto_length : {s : Store} {i : ℕ} {came ys : List Order} → Upto s i came ys → length ys ≡ length came
-upto_length none = refl
-upto_length (next a u) = ap suc (upto_length u)
 
 pub upto_next : {s : Store} {i : ℕ} {came ys : List Order} → Upto s i came ys → (d : Order) → get_or ys i d ≡ get_or came i d
 upto_next none d = refl

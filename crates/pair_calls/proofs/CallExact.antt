@@ -9,6 +9,8 @@ use native.Mathlib.Decide.{ℕ_discrete}
 use native.Mathlib.Nat.{mod-eq_of_lt}
 use native.Mathlib.Omega.{arith}
 use lib.ListN.{length}
+use Rattle.std.specs.Prelude.{Result, Ok, Err}
+use Rattle.std.specs.Result.{result_unwrap_or}
 use Rattle.store.specs.Lists.{Reachable}
 use Rattle.store.specs.Slots.{list_space}
 use Rattle.store.proofs.Space.{list_space_most}
@@ -16,10 +18,10 @@ use Rattle.reach.specs.Pairs.{Comparable}
 use Rattle.reachable.specs.Numbers.{reach_number}
 use Rattle.reachable.specs.Promises.{ReachSays}
 use Rattle.reachable.proofs.Exact.{one_reach, yes_exactly, no_exactly, zero_is_yes, fifteen_is_no}
-use Rattle.plans.specs.declared.PlanAnswer.{PlanAnswer}
+use Rattle.plans.specs.declared.PlanFault.{PlanFault}
 use Rattle.plans.specs.Numbers.{plan_number, plan_fault}
 use Rattle.plans.specs.Promises.{PlanSays, Lists}
-use Rattle.plans.proofs.PlanExact.{one_plan, plan_numbered, listed_list, unlisted_untouched, zero_is_listed, ten_is_little, fifteen_is_unreachable, number_most}
+use Rattle.plans.proofs.PlanExact.{plan_numbered, listed_count, listed_list, unlisted_untouched, zero_is_listed, ten_is_little, fifteen_is_unreachable, number_most}
 use Rattle.marks.specs.Cassettes.{first}
 use Rattle.marks.proofs.Faulted.{first_either, first_skips, first_stays}
 use Rattle.image.specs.Numbers.{ReadingGives}
@@ -76,32 +78,32 @@ module _ {a b came out : List ℕ} {r : ℕ} (p : PlanCallIs a b came r out) whe
   fault_of n = omega (arith, (p.unread n).0, faults_few a b)
 
   number_of : (g : PlanGives (store_in a) (store_in b) came out r)
-      → (r % 256 ≡ plan_number g.planned.answer) × (r / 256 ≡ g.planned.count % 2 ^ 56)
-  number_of g = low_byte g.planned.count _ r (omega (arith, number_most g.planned.answer)) g.number
+      → (r % 256 ≡ plan_number g.planned) × (r / 256 ≡ result_unwrap_or g.planned 0 % 2 ^ 56)
+  number_of g = low_byte (result_unwrap_or g.planned 0) _ r (omega (arith, number_most g.planned)) g.number
 
   -- the first r / 256 bytes are a list that leads from start to goal
   pub call_listed : r % 256 ≡ 0 → Lists (store_in a) (store_in b) came out (r / 256)
   call_listed e =
       let g = p.answered (read_by_number a b fault_of (inl e)) in
       let q = number_of g in
-      let k = zero_is_listed g.planned.answer (sym q.0 ∙ e) in
+      let k = zero_is_listed g.planned (sym q.0 ∙ e) in
       let l = listed_list _ _ _ _ g.planned g.is k in
-      let c = (subst (PlanSays (store_in a) (store_in b) came) k g.is.answer).0 in
-      let few : g.planned.count < 2 ^ 56 = omega (arith, l.count, l.short, list_space_most _ c.start) in
+      let c = (subst (PlanSays (store_in a) (store_in b) came) (listed_count g.planned k) g.is.answer).0 in
+      let few : result_unwrap_or g.planned 0 < 2 ^ 56 = omega (arith, l.count, l.short, list_space_most _ c.start) in
       subst (Lists (store_in a) (store_in b) came out) (sym (q.1 ∙ mod-eq_of_lt few)) l
 
   -- what 15 and 10 say
-  fifteen_says : r % 256 ≡ 15 → (read_faults a b ≡ 0) × PlanSays (store_in a) (store_in b) came PlanAnswer.Unreachable
+  fifteen_says : r % 256 ≡ 15 → (read_faults a b ≡ 0) × PlanSays (store_in a) (store_in b) came (Err PlanFault.Unreachable)
   fifteen_says e =
       let z = read_by_number a b fault_of (inr (omega arith)) in
       let g = p.answered z in
-      (z, subst (PlanSays (store_in a) (store_in b) came) (fifteen_is_unreachable g.planned.answer (sym (number_of g).0 ∙ e)) g.is.answer)
+      (z, subst (PlanSays (store_in a) (store_in b) came) (fifteen_is_unreachable g.planned (sym (number_of g).0 ∙ e)) g.is.answer)
 
-  ten_says : r % 256 ≡ 10 → (read_faults a b ≡ 0) × PlanSays (store_in a) (store_in b) came PlanAnswer.LittleSpace
+  ten_says : r % 256 ≡ 10 → (read_faults a b ≡ 0) × PlanSays (store_in a) (store_in b) came (Err PlanFault.LittleSpace)
   ten_says e =
       let z = read_by_number a b fault_of (inr (omega arith)) in
       let g = p.answered z in
-      let k = ten_is_little _ _ came g.planned.answer g.is.answer (sym (number_of g).0 ∙ e) in
+      let k = ten_is_little _ _ came g.planned g.is.answer (sym (number_of g).0 ∙ e) in
       (z, subst (PlanSays (store_in a) (store_in b) came) k g.is.answer)
 
   -- no list exists
@@ -117,32 +119,32 @@ module _ {a b came out : List ℕ} {r : ℕ} (p : PlanCallIs a b came r out) whe
   call_untouched n =
       elim (ℕ_discrete (read_faults a b) 0) [
         | yes z ↦ (let g = p.answered z in
-            let u = unlisted_untouched _ _ _ _ g.planned g.is (λ k. n ((number_of g).0 ∙ ap plan_number k)) in
-            (omega (arith, (number_of g).1, u.count), u.bytes))
+            let u = unlisted_untouched _ _ _ _ g.planned g.is (λ k. n ((number_of g).0 ∙ ap plan_number (listed_count g.planned k))) in
+            (omega (arith, (number_of g).1, u.0), u.1))
         | no f ↦ (omega (arith, (p.unread f).0, faults_few a b), (p.unread f).1)
       ]
 
   -- the number of an answer that is right
   module _ (z : read_faults a b ≡ 0) where
-    called : (v : PlanAnswer) → PlanSays (store_in a) (store_in b) came v → r % 256 ≡ plan_number v
-    called v q = let g = p.answered z in (number_of g).0 ∙ ap plan_number (one_plan _ _ came g.planned.answer v g.is.answer q)
+    called : (v : Result ℕ PlanFault) → PlanSays (store_in a) (store_in b) came v → r % 256 ≡ plan_number v
+    called v q = let g = p.answered z in (number_of g).0 ∙ plan_numbered _ _ came g.planned g.is.answer ∙ sym (plan_numbered _ _ came v q)
 
     module _ (c : Comparable (store_in a) (store_in b)) where
       pub unreachable_called : (Reachable (store_in a) (store_in b) → ⊥) → r % 256 ≡ 15
-      unreachable_called n = called PlanAnswer.Unreachable (c, n)
+      unreachable_called n = called (Err PlanFault.Unreachable) (c, n)
 
       pub listed_called : Reachable (store_in a) (store_in b) → list_space (store_in a) ≤ length came → r % 256 ≡ 0
-      listed_called l h = called PlanAnswer.Listed (c, (l, h))
+      listed_called l h = called (Ok 0) (c, (l, h))
 
       pub little_called : Reachable (store_in a) (store_in b) → length came < list_space (store_in a) → r % 256 ≡ 10
-      little_called l h = called PlanAnswer.LittleSpace (c, (l, h))
+      little_called l h = called (Err PlanFault.LittleSpace) (c, (l, h))
 
   -- the number of a plan is the first that applies: of reading, then of the two stores and the length lent
   pub call_numbered : r % 256 ≡ first (read_faults a b) (plan_fault (store_in a) (store_in b) (length came))
   call_numbered =
       elim (ℕ_discrete (read_faults a b) 0) [
         | yes z ↦ (let g = p.answered z in
-            (number_of g).0 ∙ plan_numbered _ _ came g.planned.answer g.is.answer ∙ sym (first_skips _ _ z))
+            (number_of g).0 ∙ plan_numbered _ _ came g.planned g.is.answer ∙ sym (first_skips _ _ z))
         | no n ↦ fault_of n ∙ sym (first_stays _ _ n)
       ]
 
@@ -154,7 +156,7 @@ module _ {a b came lent out written : List ℕ} {r q : ℕ} (u : PlanCallIs a b 
 
   -- 15 is given whatever is lent, and enough space cures 10
   pub fifteen_stays : r % 256 ≡ 15 → q % 256 ≡ 15
-  fifteen_stays e = let w = fifteen_says u e in called v w.0 PlanAnswer.Unreachable w.1
+  fifteen_stays e = let w = fifteen_says u e in called v w.0 (Err PlanFault.Unreachable) w.1
 
   pub space_cures : r % 256 ≡ 10 → list_space (store_in a) ≤ length lent → q % 256 ≡ 0
-  space_cures e h = let w = ten_says u e in called v w.0 PlanAnswer.Listed (w.1.0, (w.1.1.0, h))
+  space_cures e h = let w = ten_says u e in called v w.0 (Ok 0) (w.1.0, (w.1.1.0, h))

@@ -4,50 +4,51 @@
 ghost use Rattle.std.specs.Prelude.{◌≡◌};
 ghost use Rattle.pairs.specs.Numbers.{pair_fault_number, pair_number};
 ghost use Rattle.reachable.specs.Numbers.{reach_number};
-ghost use Rattle.plans.specs.Numbers.{plan_number};
+ghost use Rattle.plans.specs.Numbers.{plan_fault_number, plan_number};
 
-use numbers::fault_number;
-use pairs::{Pair, PairFault};
-use plans::PlanAnswer;
-use reachable::Reach;
+use numbers::Numbered;
+use pairs::PairFault;
+use plans::PlanFault;
 
 pub fn pair_fault_number(f: PairFault) -> u8
     ensures { result ≡ pair_fault_number f }
 {
     match f {
-        PairFault::StartRefused(g) => fault_number(g),
-        PairFault::GoalRefused(g) => fault_number(g),
+        PairFault::StartRefused(g) => g.number(),
+        PairFault::GoalRefused(g) => g.number(),
         PairFault::Frames => 8,
         PairFault::Cassettes => 9,
     }
 }
 
-pub fn pair_number(p: Pair) -> u8
+pub fn pair_number(p: Result<usize, PairFault>) -> u8
     ensures { result ≡ pair_number p }
 {
-    match p {
-        Pair::Comparable => 0,
-        Pair::Refused(f) => pair_fault_number(f),
-    }
+    p.err().map_or(0, pair_fault_number)
 }
 
-pub fn reach_number(r: Reach) -> u8
+pub fn reach_number(r: Result<bool, PairFault>) -> u8
     ensures { result ≡ reach_number r }
 {
     match r {
-        Reach::Yes => 0,
-        Reach::Refused(f) => pair_fault_number(f),
-        Reach::Unreachable => 15,
+        Ok(true) => 0,
+        Ok(false) => 15,
+        Err(f) => pair_fault_number(f),
     }
 }
 
-pub fn plan_number(a: PlanAnswer) -> u8
+pub fn plan_fault_number(f: PlanFault) -> u8
+    ensures { result ≡ plan_fault_number f }
+{
+    match f {
+        PlanFault::Refused(g) => pair_fault_number(g),
+        PlanFault::Unreachable => 15,
+        PlanFault::LittleSpace => 10,
+    }
+}
+
+pub fn plan_number(a: Result<usize, PlanFault>) -> u8
     ensures { result ≡ plan_number a }
 {
-    match a {
-        PlanAnswer::Listed => 0,
-        PlanAnswer::Refused(f) => pair_fault_number(f),
-        PlanAnswer::Unreachable => 15,
-        PlanAnswer::LittleSpace => 10,
-    }
+    a.err().map_or(0, plan_fault_number)
 }

@@ -10,7 +10,11 @@ use Rattle.marks.specs.Marking.{marks_of, Marked}
 use Rattle.marks.proofs.MarkSets.{counts_words, words_counts}
 use Rattle.store.specs.declared.Store.{Store}
 use Rattle.store.specs.Slots.{SameFrame, cassettes}
-use Rattle.store.specs.Accept.{Accepted}
+use Rattle.store.specs.declared.Fault.{Fault}
+use Rattle.store.specs.Accept.{store_fault, Accepted}
+use Rattle.store.specs.Promises.{CheckIs}
+use Rattle.pairs.specs.declared.PairFault.{PairFault}
+use Rattle.std.specs.Prelude.{Result, Ok, Err, MatchResult}
 use Rattle.store.proofs.Acceptance.{accepted_marked}
 use Rattle.reach.specs.Pairs.{same_frame, frame_fault, cassettes_fault, Comparable}
 use Rattle.reach.proofs.Sets.{agreed_frames, other_cassettes}
@@ -25,6 +29,12 @@ frames_differ s t n = go (same_frame s t) (λ e. n (agreed_frames s t e))
 -- an accepted store, with the words of the marks of its cassettes
 abbrev pub AcceptedMarks : Store → List ℕ → Type 0
 AcceptedMarks s w = Accepted s × (w ≡ marks_of (cassettes s))
+
+-- what a check that refuses nothing found, its fault named by another
+pub accepted_marks : (s : Store) (w : List ℕ) (r : Result (List ℕ) Fault) → CheckIs (store_fault s) (cassettes s) r
+    → MatchResult r (λ v. ◌≡◌ {A = Result (List ℕ) PairFault} (Ok w) (Ok v)) (λ f. ⊥) → AcceptedMarks s w
+accepted_marks s w (Ok v) p e = (p.0, cc (p.1.0, e))
+accepted_marks s w (Err f) p e = absurd e
 
 marked : (s : Store) (w : List ℕ) → AcceptedMarks s w → Marked w (cassettes s)
 marked s w p = subst (λ (u : List ℕ). Marked u (cassettes s)) (sym p.1) (accepted_marked s p.0)

@@ -1,11 +1,12 @@
 -- A list with its shafts renamed, byte by byte; and that the names of the numbering are the shafts of the set.
-use mathlib.Core.List.{List, [], ◌∷◌, ◌++◌, map, map-append}
+use mathlib.Core.List.{List, [], ◌∷◌, ◌++◌, map, map-append, append-nil}
 use mathlib.Core.Path.{◌≡◌, refl, sym, ap, ◌∙◌}
 use Prim.Native.Nat.{ℕ, suc, ◌%◌, ◌≤◌, ◌<◌}
 use native.Mathlib.Nat.{zero-add}
 use native.Mathlib.Omega.{arith}
 use lib.ListN.{length, get_or, set, take, drop, length-map, length-take}
 use lib.Seq.{take-suc, drop-cons, get_or_at, set_at, append_snoc, take_at, drop_at}
+use Rattle.std.proofs.lemmas.List.{take_all, drop_all}
 use Rattle.lifts.specs.Bytes.{left, entered}
 use Rattle.lifts.specs.Lifting.{most_shafts}
 use Rattle.store.specs.declared.Store.{Store}
@@ -34,6 +35,10 @@ module _ (f : ℕ → ℕ) (l : List ℕ) (i : ℕ) (h : i < length l) where
       ap (λ (r : List ℕ). set (map f (take i l) ++ r) i (f (get_or l i 0))) (drop-cons l i 0 h)
       ∙ set_at (map f (take i l)) (get_or l i 0) (drop (suc i) l) (f (get_or l i 0)) i before_length
       ∙ sym (ap (λ (r : List ℕ). r ++ drop (suc i) l) (ap (map f) (take-suc l i 0 h) ∙ map-append f (take i l) (get_or l i 0 ∷ [])) ∙ append_snoc (map f (take i l)) (f (get_or l i 0)) (drop (suc i) l))
+
+-- all of them renamed
+pub renamed_all : (f : ℕ → ℕ) (l : List ℕ) (i : ℕ) → length l ≤ i → renamed_to f l i ≡ map f l
+renamed_all f l i h = rw (take_all i l h, drop_all i l h) (append-nil (map f l))
 
 -- a list at the beginning of the lent bytes
 pub written_first : (came l : List ℕ) → written came 0 l ≡ l ++ drop (length l) came

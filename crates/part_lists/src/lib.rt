@@ -1,7 +1,7 @@
 // The list made set by set (document 02, 10/13): for the shafts of each set as a store of their own, and written with the store's own shafts.
 #![tactic(auto)]
 
-ghost use Rattle.std.specs.Prelude.{map, ◌++◌, ◌≡◌, ◌≤◌, length, take, drop};
+ghost use Rattle.std.specs.Prelude.{map, ◌≡◌, ◌≤◌, length};
 ghost use Rattle.store.specs.Lists.{Reachable};
 ghost use Rattle.store.specs.Slots.{list_space};
 ghost use Rattle.reach.specs.Pairs.{Comparable};
@@ -28,15 +28,12 @@ fn renamed_byte(names: [u8; 16], b: u8) -> u8
     pack(Shaft(x), Shaft(y))
 }
 
-// Gives the shafts of the first lifts of a list their names.
-fn rename(names: [u8; 16], out: &mut [u8], count: usize)
-    requires { count ≤ length out.old }
-    ensures { out.new ≡ map (renamed names) (take count out.old) ++ drop count out.old }
+// Gives the shafts of the lifts of a list their names.
+fn rename(names: [u8; 16], list: &mut [u8])
+    ensures { list.new ≡ map (renamed names) list.old }
 {
-    let mut i: usize = 0;
-    while i < count {
-        out[i] = renamed_byte(names, out[i]);
-        i += 1;
+    for b in list.iter_mut() {
+        *b = renamed_byte(names, *b);
     }
 }
 
@@ -55,7 +52,7 @@ fn make_part(start: Store, goal: Store, some: u16, out: &mut [u8]) -> usize
     let numbering = numbering_of(some, start.m);
     let names = numbering.names;
     let count = make(a, b, out);
-    rename(names, out, count);
+    rename(names, &mut out[..count]);
     count
 }
 
@@ -68,10 +65,8 @@ pub fn make_row(start: Store, goal: Store, row: &[u16], out: &mut [u8]) -> usize
     ensures { RowMade row.now start goal out.old result out.new }
 {
     let mut count: usize = 0;
-    let mut i: usize = 0;
-    while i < row.len() {
-        count += make_part(start, goal, row[i], &mut out[count..]);
-        i += 1;
+    for some in row {
+        count += make_part(start, goal, *some, &mut out[count..]);
     }
     count
 }

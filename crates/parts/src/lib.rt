@@ -11,10 +11,10 @@ use sets::numbering_of;
 use store::Store;
 
 // What is recorded for a shaft; 0 for a shaft above 15.
-fn value_at(values: [u8; 16], x: usize) -> u8
+fn value_at(values: [u8; 16], x: u8) -> u8
     ensures { result ≡ get_or values x 0 }
 {
-    if x < 16 { values[x] } else { 0 }
+    values.get(x as usize).copied().unwrap_or(0)
 }
 
 // What is recorded for each shaft, by the new numbers.
@@ -22,20 +22,18 @@ fn renumbered(values: [u8; 16], names: [u8; 16]) -> [u8; 16]
     ensures { result ≡ tabulated most_shafts (λ i. get_or values (get_or names i 0) 0) }
 {
     let mut out = [0u8; 16];
-    let mut i: usize = 0;
-    while i < 16 {
-        out[i] = value_at(values, names[i] as usize);
-        i += 1;
+    for i in 0..16 {
+        out[i] = value_at(values, names[i]);
     }
     out
 }
 
 // Row k + 1 of a shaft; 0 for a shaft above 15.
-fn row_at(slots: &Slots, x: usize, k: usize) -> Cassette
+fn row_at(slots: &Slots, x: u8, k: usize) -> Cassette
     requires { (length slots.now ≡ slot_count) × (k < most_rows) }
     ensures { result ≡ shown slots.now x (suc k) }
 {
-    if x < 16 { slots[16 * x + k] } else { 0 }
+    slots.get(16 * x as usize + k).copied().unwrap_or(0)
 }
 
 // The slots, by the new numbers of the shafts.
@@ -44,11 +42,8 @@ fn renumbered_slots(slots: &Slots, names: [u8; 16]) -> Slots
     ensures { result ≡ tabulated slot_count (λ p. shown slots.now (get_or names (p / 16) 0) (suc (p % 16))) }
 {
     let mut out: Slots = [0; 256];
-    let mut p: usize = 0;
-    while p < 256 {
-        let x = names[p / 16] as usize;
-        out[p] = row_at(slots, x, p % 16);
-        p += 1;
+    for p in 0..256 {
+        out[p] = row_at(slots, names[p / 16], p % 16);
     }
     out
 }

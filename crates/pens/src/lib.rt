@@ -13,16 +13,6 @@ pub struct Pen {
     pub full: usize,
 }
 
-pub fn start() -> Pen
-    ensures { result ≡ no_bits }
-{
-    Pen {
-        at: 0,
-        part: 0,
-        full: 0,
-    }
-}
-
 // The w low bits of v after those of part, as one number.
 fn append(part: u8, v: u16, w: usize) -> u32
     requires { w ≤ 16 }
@@ -39,39 +29,51 @@ fn byte_of(x: u32, k: usize) -> u8
     ((x >> k) % 256) as u8
 }
 
-// The w low bits of v, the most significant first. With the pen's own they are 23 at most: two whole bytes to store, and a rest.
-pub fn push(p: Pen, out: &mut [u8], v: u16, w: usize) -> Pen
-    requires w_bound { (w ≤ 16) × (p.full < 8) }
-    requires w_bound_2 { 8 * p.at + p.full + w ≤ 8 * length out.old }
-    ensures { Pushes (bits w v) out.old out.new p result }
-{
-    let all = append(p.part, v, w);
-    let mut at = p.at;
-    let mut full = p.full + w;
-    if 16 <= full {
-        full -= 8;
-        out[at] = byte_of(all, full);
-        at += 1;
+impl Pen {
+    pub fn start() -> Pen
+        ensures { result ≡ no_bits }
+    {
+        Pen {
+            at: 0,
+            part: 0,
+            full: 0,
+        }
     }
-    if 8 <= full {
-        full -= 8;
-        out[at] = byte_of(all, full);
-        at += 1;
-    }
-    Pen {
-        at,
-        part: byte_of(all, 0),
-        full,
-    }
-}
 
-// Zero bits to the end of the byte.
-pub fn pad(p: Pen, out: &mut [u8]) -> Pen
-    requires { (p.full < 8) × (8 * p.at + p.full ≤ 8 * length out.old) }
-    ensures { Pads out.old out.new p result }
-{
-    if p.full == 0 {
-        return p;
+    // The w low bits of v, the most significant first. With the pen's own they are 23 at most: two whole bytes to store, and a rest.
+    pub fn push(self, out: &mut [u8], v: u16, w: usize) -> Pen
+        requires w_bound { (w ≤ 16) × (self.full < 8) }
+        requires w_bound_2 { 8 * self.at + self.full + w ≤ 8 * length out.old }
+        ensures { Pushes (bits w v) out.old out.new self result }
+    {
+        let all = append(self.part, v, w);
+        let mut at = self.at;
+        let mut full = self.full + w;
+        if 16 <= full {
+            full -= 8;
+            out[at] = byte_of(all, full);
+            at += 1;
+        }
+        if 8 <= full {
+            full -= 8;
+            out[at] = byte_of(all, full);
+            at += 1;
+        }
+        Pen {
+            at,
+            part: byte_of(all, 0),
+            full,
+        }
     }
-    push(p, out, 0, 8 - p.full)
+
+    // Zero bits to the end of the byte.
+    pub fn pad(self, out: &mut [u8]) -> Pen
+        requires { (self.full < 8) × (8 * self.at + self.full ≤ 8 * length out.old) }
+        ensures { Pads out.old out.new self result }
+    {
+        if self.full == 0 {
+            return self;
+        }
+        self.push(out, 0, 8 - self.full)
+    }
 }

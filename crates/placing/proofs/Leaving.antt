@@ -18,11 +18,9 @@ use Rattle.store.specs.Sound.{Shaped}
 use Rattle.store.specs.Lifts.{Allowed}
 use Rattle.store.proofs.Rows.{downward_length, stack_length, stack_top}
 use Rattle.reach.proofs.Agree.{shaped_within}
-use Rattle.lifts.specs.Carried.{CanCarry}
 use Rattle.moves.specs.Put.{PutIs}
 use Rattle.moves.specs.Written.{Steps}
 use Rattle.moves.proofs.Stepping.{steps_none, steps_then}
-use Rattle.store.proofs.Lifting.{can_carry}
 use Rattle.moves.proofs.Carrying.{CarriedOn, carried_on}
 use Rattle.rooms.specs.declared.Frame.{Frame}
 use Rattle.placing.specs.declared.leave.Off.{Off}
@@ -93,12 +91,6 @@ module _ {f : Frame} {heights₀ slots₀ : List ℕ} {b y at₀ : ℕ} {came he
     module _ {c : ℕ} (o : Outside f.m (depth_in f) b b (height_in heights) c) where
       allowed : Allowed (store_of f heights slots) b c
       allowed = record { left_below = q.usable; entered_below = o.usable; differ = Ne-symm o.not_first; taken = omega (arith, u.covered, q.row); room = o.room }
-
-      pub lift_off : CanCarry heights b c × (at < length out)
-      lift_off = (can_carry (store_of f heights slots) b c u.shaped allowed, room_left)
-
-      pub entered_low : (c < 16) × (height_in heights c < 16)
-      entered_low = omega (arith, allowed, u.shaped.shafts, u.shaped.rows c)
 
       module _ {heights' slots' : List ℕ} {at' : ℕ} {out' : List ℕ} (r : PutIs heights slots b c at out heights' slots' at' out') where
         on : CarriedOn (store_of f heights slots) b c at out (store_of f heights' slots') at' out'

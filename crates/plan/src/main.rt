@@ -2,14 +2,14 @@
 // there is none.
 #![tactic(auto)]
 
-ghost use Rattle.std.specs.Prelude.{◌≡◌, ◌≤◌, length, take};
+ghost use Rattle.std.specs.Prelude.{◌≡◌, ◌≤◌, length, take, Err};
 
 use image::Read;
 use lift_bytes::{entered_of, left_of};
-use numbers::read_number;
-use pair_numbers::plan_number;
+use numbers::Numbered;
+use pair_numbers::plan_fault_number;
 use planner::make_list;
-use plans::{PlanAnswer, Planned};
+use plans::PlanFault;
 use reading::read;
 use std::rt::Files;
 use std::{fs, io};
@@ -62,38 +62,29 @@ fn print_list(rt: &impl Print, list: &[u8], count: usize) -> io::Result<()> {
 
 // The list maker, lent as many bytes as any accepted store needs (`list_space_most`, crates/store/proofs/Space.antt), so that 10 is
 // never given.
-fn planned(start: Store, goal: Store, list: &mut [u8]) -> Planned
+fn planned(start: Store, goal: Store, list: &mut [u8]) -> Result<usize, PlanFault>
     requires { 18432 ≤ length list.old }
-    ensures { result.answer ≡ PlanAnswer.LittleSpace → ⊥ }
+    ensures { result ≡ Err PlanFault.LittleSpace → ⊥ }
 {
     make_list(start, goal, list)
 }
 
 fn print_plan(rt: &impl Print, start: Store, goal: Store) -> io::Result<()> {
     let mut list = [0u8; 18432];
-    let made = planned(start, goal, &mut list);
-    let answer = made.answer;
-    let number = plan_number(answer);
-    if number == 0 {
-        return print_list(rt, &list, made.count);
+    match planned(start, goal, &mut list) {
+        Ok(count) => print_list(rt, &list, count),
+        Err(f) => refused(rt, plan_fault_number(f), "both"),
     }
-    refused(rt, number, "both")
 }
 
 fn main(rt: HostRuntime) -> io::Result<()> {
-    let one = read_file(&rt, "start.img");
-    let first = one.answer;
-    let number = read_number(first);
-    if number != 0 {
-        return refused(&rt, number, "start");
+    let start = read_file(&rt, "start.img");
+    if let Err(f) = start.answer {
+        return refused(&rt, f.number(), "start");
     }
-    let two = read_file(&rt, "goal.img");
-    let second = two.answer;
-    let other = read_number(second);
-    if other != 0 {
-        return refused(&rt, other, "goal");
+    let goal = read_file(&rt, "goal.img");
+    if let Err(f) = goal.answer {
+        return refused(&rt, f.number(), "goal");
     }
-    let start = one.store;
-    let goal = two.store;
-    print_plan(&rt, start, goal)
+    print_plan(&rt, start.store, goal.store)
 }

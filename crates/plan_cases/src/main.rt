@@ -3,9 +3,8 @@
 #![tactic(auto)]
 
 use depths::equal;
-use lifts::Slots;
 use marks::{Cassette, blank};
-use numbers::end_number;
+use numbers::Numbered;
 use pair_numbers::{plan_number, reach_number};
 use planner::make_list;
 use reachable::reachable;
@@ -13,28 +12,9 @@ use replay::replay;
 use std::io;
 use store::Store;
 
-fn say(rt: &impl Print, what: &str, number: u64) -> io::Result<()> {
-    print!(rt; "{what}{number}")
-}
-
-fn same_slots(a: &Slots, b: &Slots) -> bool {
-    a == b
-}
-
-// Whether two stores are the same.
-fn same_store(s: Store, t: Store) -> bool {
-    s.m == t.m && s.depths == t.depths && s.heights == t.heights && same_slots(&s.slots, &t.slots)
-}
-
 // m shafts of depth h with no cassette.
 fn empty(m: u8, h: u8) -> Store {
-    let depths = equal(m, h);
-    Store {
-        m,
-        depths,
-        heights: [0u8; 16],
-        slots: [0u16; 256],
-    }
+    Store::empty(m, equal(m, h))
 }
 
 // One cassette more on top of a shaft, where there is room in the arrays.
@@ -68,25 +48,15 @@ fn dealt(k: usize) -> Store {
     s
 }
 
-// Whether a replay of the first count bytes leads from start to goal.
-fn led(start: Store, goal: Store, list: &[u8], count: usize) -> bool {
-    if list.len() < count {
-        return false;
-    }
-    let replayed = replay(start, &list[..count]);
-    let end = replayed.end;
-    let reached = replayed.store;
-    if end_number(end) != 0 {
-        return false;
-    }
-    same_store(reached, goal)
+// Whether a replay of a list leads from start to goal.
+fn led(start: Store, goal: Store, list: &[u8]) -> bool {
+    let replayed = replay(start, list);
+    replayed.end.number() == 0 && replayed.store == goal
 }
 
 // What was answered: the number of the yes or no, that of the plan, the count of lifts, and whether they lead to the goal.
 fn tell(rt: &impl Print, reach: u8, plan: u8, count: usize, arrived: bool) -> io::Result<()> {
-    say(rt, ": yes or no ", reach as u64)?;
-    say(rt, ", plan ", plan as u64)?;
-    say(rt, ", lifts ", count as u64)?;
+    print!(rt; ": yes or no {reach}, plan {plan}, lifts {count}")?;
     if arrived {
         print!(rt; ", replay ends at the goal")?;
     }
@@ -96,15 +66,14 @@ fn tell(rt: &impl Print, reach: u8, plan: u8, count: usize, arrived: bool) -> io
 fn show(rt: &impl Print, what: &str, start: Store, goal: Store, list: &mut [u8]) -> io::Result<()> {
     print!(rt; "{what}")?;
     let planned = make_list(start, goal, list);
-    let answer = planned.answer;
-    let count = planned.count;
+    let count = planned.unwrap_or(0);
     let reach = reach_number(reachable(start, goal));
     tell(
         rt,
         reach,
-        plan_number(answer),
+        plan_number(planned),
         count,
-        led(start, goal, list, count),
+        list.get(..count).is_some_and(|made| led(start, goal, made)),
     )
 }
 

@@ -4,18 +4,14 @@
 
 ghost use Rattle.plans.specs.Promises.{PlanIs};
 
-use pairs::{Pair, compare};
-use plans::{PlanAnswer, Planned, plan_pair, refused};
+use pairs::compare;
+use plans::{PlanFault, plan_pair};
 use store::Store;
 
-// Writes a list of lifts that leads from start to goal into the lent bytes, or refuses and writes nothing.
-pub fn make_list(start: Store, goal: Store, out: &mut [u8]) -> Planned
+// Writes a list of lifts that leads from start to goal into the lent bytes, and gives the count of lifts; or refuses and writes nothing.
+pub fn make_list(start: Store, goal: Store, out: &mut [u8]) -> Result<usize, PlanFault>
     ensures { PlanIs start goal out.old out.new result }
 {
-    let compared = compare(start, goal);
-    let pair = compared.pair;
-    if let Pair::Refused(f) = pair {
-        return refused(PlanAnswer::Refused(f), out);
-    }
-    plan_pair(start, goal, compared.n, out)
+    let n = compare(start, goal)?;
+    plan_pair(start, goal, n, out)
 }

@@ -9,6 +9,7 @@ use native.Mathlib.Decide.{ℕ_discrete}
 use native.Mathlib.Omega.{arith}
 use lib.Dec.{ltb}
 use lib.ListN.{length}
+use Rattle.std.specs.Prelude.{Result}
 use Rattle.stacks.specs.Deciding.{Decides}
 use Rattle.marks.specs.Cassettes.{given, first}
 use Rattle.store.specs.declared.Store.{Store}
@@ -18,7 +19,7 @@ use Rattle.reach.specs.Pairs.{pair_fault}
 use Rattle.reach.specs.Tests.{rule_test}
 use Rattle.reach.proofs.RuleTests.{reachable_test}
 use Rattle.reach.proofs.Sets.{comparable}
-use Rattle.plans.specs.declared.PlanAnswer.{PlanAnswer}
+use Rattle.plans.specs.declared.PlanFault.{PlanFault}
 use Rattle.plans.specs.Numbers.{plan_number, plan_fault}
 use Rattle.plans.specs.Promises.{PlanSays}
 use Rattle.plans.proofs.PlanExact.{not_ten, plan_numbered}
@@ -57,6 +58,6 @@ ten_becomes_fifteen s t lent =
     ]
 
 -- so of every answer that is right
-pub answers_changed : (s t : Store) (came : List ℕ) (a : PlanAnswer) → PlanSays s t came a
+pub answers_changed : (s t : Store) (came : List ℕ) (a : Result ℕ PlanFault) → PlanSays s t came a
     → TenBecomesFifteen (plan_number a) (ten_first s t (length came)) (Reachable s t)
 answers_changed s t came a p = rw (plan_numbered s t came a p) (ten_becomes_fifteen s t (length came))

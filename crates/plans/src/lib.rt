@@ -7,7 +7,8 @@ ghost use Rattle.stacks.specs.Deciding.{Decides};
 ghost use Rattle.store.specs.Accept.{Accepted};
 ghost use Rattle.store.specs.Slots.{cassette_count, list_space};
 ghost use Rattle.reach.specs.Pairs.{Comparable};
-ghost use Rattle.plans.specs.Promises.{RefusedPlan, PlanIs};
+ghost use Rattle.plans.specs.declared.PlanFault.{PlanFault};
+ghost use Rattle.plans.specs.Promises.{PlanIs};
 
 use depths::list_space;
 use making::make;
@@ -15,35 +16,19 @@ use pairs::PairFault;
 use rules::rule_holds;
 use store::Store;
 
-// How the list maker answers: a list, or refused with the fault of the pair, 15 or 10.
+// Why no list was made: the fault of the pair, 15 or 10.
 #[derive(Clone, Copy)]
-pub enum PlanAnswer {
-    Listed,
+pub enum PlanFault {
     Refused(PairFault),
     Unreachable,
     LittleSpace,
 }
 
-// The answer, and the count of lifts in the list, 0 where there is none.
-#[derive(Clone, Copy)]
-pub struct Planned {
-    pub answer: PlanAnswer,
-    pub count: usize,
-}
+impl From<PairFault> for PlanFault {
+    ghost from_gives = { λ f r. r ≡ PlanFault.Refused f };
 
-// A refusal: no list, and the lent bytes as they came.
-pub fn refused(answer: PlanAnswer, out: &mut [u8]) -> Planned
-    ensures { RefusedPlan answer out.old out.new result }
-{
-    Planned { answer, count: 0 }
-}
-
-fn listed(count: usize) -> Planned
-    ensures { result ≡ record { answer = PlanAnswer.Listed; count = count } }
-{
-    Planned {
-        answer: PlanAnswer::Listed,
-        count,
+    fn from(f: PairFault) -> PlanFault {
+        PlanFault::Refused(f)
     }
 }
 
@@ -57,8 +42,8 @@ fn too_little(lent: usize, start: Store, n: usize) -> bool
     lent < list_space(start.m, depths, n)
 }
 
-// For two stores that can be compared, and hold n cassettes: 15, 10, or the list.
-pub fn plan_pair(start: Store, goal: Store, n: usize, out: &mut [u8]) -> Planned
+// For two stores that can be compared, and hold n cassettes: the count of lifts of the list, or 15, or 10.
+pub fn plan_pair(start: Store, goal: Store, n: usize, out: &mut [u8]) -> Result<usize, PlanFault>
     requires comparable { Comparable start goal }
     requires n_value { n ≡ cassette_count start }
     ensures { PlanIs start goal out.old out.new result }
@@ -66,11 +51,11 @@ pub fn plan_pair(start: Store, goal: Store, n: usize, out: &mut [u8]) -> Planned
     let reachable = rule_holds(start, goal, n);
     let little = too_little(out.len(), start, n);
     if !reachable {
-        return refused(PlanAnswer::Unreachable, out);
+        return Err(PlanFault::Unreachable);
     }
     if little {
-        return refused(PlanAnswer::LittleSpace, out);
+        return Err(PlanFault::LittleSpace);
     }
     let count = make(start, goal, out);
-    listed(count)
+    Ok(count)
 }

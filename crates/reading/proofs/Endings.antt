@@ -1,54 +1,43 @@
--- The shafts and the end of a reading put together, and its answer.
+-- The head, the shafts and the end of a reading put together, and its answer.
 use mathlib.Core.List.{List, []}
-use mathlib.Core.Path.{◌≡◌, refl, sym, ap, ◌∙◌, subst}
-use Prim.Native.Nat.{ℕ, zero, suc}
+use mathlib.Core.Path.{◌≡◌, sym, ap, ◌∙◌, subst}
+use Prim.Native.Nat.{ℕ, ◌*◌}
+use Rattle.std.specs.Prelude.{Result, Ok, Err}
 use Rattle.marks.specs.Marking.{no_marks, Marked}
 use Rattle.marks.proofs.Takes.{nothing_marked}
 use Rattle.store.specs.declared.Store.{Store}
-use Rattle.store.specs.Slots.{held}
-use Rattle.image.specs.declared.ReadAnswer.{ReadAnswer}
-use Rattle.image.specs.Numbers.{read_number, ReadingGives}
+use Rattle.store.specs.Slots.{empty_store}
+use Rattle.image.specs.declared.ReadFault.{ReadFault}
 use Rattle.image.specs.Promises.{ReadIs}
-use Rattle.image.specs.Reading.{Reading, unless, smallest, finish, read_body, read_image}
+use Rattle.image.specs.Reading.{Reading, smallest, no_depths, finish, read_body, read_shafts, read_image}
 use Rattle.image.proofs.Answered.{only_read}
-use Rattle.image.proofs.Numbers.{number_given}
-use Rattle.fields.specs.declared.Cursor.{Cursor}
 use Rattle.fields.specs.declared.Head.{Head}
-use Rattle.fields.specs.Cursors.{ended, EndIs}
-use Rattle.columns.specs.Columns.{ShaftsRead}
-use Rattle.reading.specs.Promises.{BodyIs}
-use Rattle.fields.proofs.Cursors.{unless_one}
+use Rattle.fields.specs.Steps.{ended, HeadIs, EndIs}
+use Rattle.columns.specs.declared.Work.{Work}
+use Rattle.columns.specs.Columns.{Reads, shaft_most}
+use Rattle.reading.specs.Promises.{StoreIs}
 
--- the shafts and the end, from no marks on
-pub body_ends : (bytes : List ℕ) (h : Head) {depths heights slots words depths' heights' slots' words' : List ℕ} {e r : Cursor} → words ≡ no_marks
-    → ShaftsRead bytes h h.m depths heights slots words depths' heights' slots' words' e → EndIs bytes e r
-    → BodyIs bytes h (held h.m depths heights slots) (held h.m depths' heights' slots') r
-unfolding read_body
-body_ends bytes h z p q =
-    let a = p.reads.after [] (subst (λ (w : List ℕ). Marked w []) (sym z) nothing_marked) in
-    record { same = a.same finish ∙ q.same a.seen _ }
+-- the shafts after a head, from the empty store and marks of nothing on
+abbrev From : List ℕ → Head → List ℕ → Work → Result Unit ReadFault → Type 0
+From bytes h words = Reads bytes (read_shafts h.form h.depth h.m) (shaft_most * h.m) (record { store = empty_store h.m no_depths; words = words; at = h.at })
 
-ended_number : (k : ℕ) (s : Store) → (unless k (record { store = s; number = 0 })).number ≡ k
-ended_number zero s = refl
-ended_number (suc k) s = refl
+none_yet : {words : List ℕ} → words ≡ no_marks → Marked words []
+none_yet z = subst (λ (l : List ℕ). Marked l []) (sym z) nothing_marked
 
--- the answer of a reading that came to its end
-module _ (bytes : List ℕ) (c : Cursor) (s : Store) (p : read_image bytes ≡ ended c s) where
-  number_is : (read_image bytes).number ≡ c.fault
-  number_is = ap (λ (o : Reading). o.number) p ∙ ended_number c.fault s
+-- a head, and then a fault among the shafts, or what the end says
+module _ (bytes : List ℕ) {h : Head} (p : HeadIs bytes (Ok h)) {words : List ℕ} (z : words ≡ no_marks) {w : Work} where
+  pub shafts_stop : (f : ReadFault) → From bytes h words w (Err f) → StoreIs (read_image bytes) (Err f)
+  unfolding read_body
+  shafts_stop f r = p.same ∙ (r.after [] (none_yet z)).same finish
 
-  pub fault_given : ReadingGives c.fault
-  fault_given = subst ReadingGives number_is (number_given bytes)
+  pub body_ends : From bytes h words w (Ok tt) → {q : Result Unit ReadFault} → EndIs bytes w.at q → read_image bytes ≡ ended q w.store
+  unfolding read_body
+  body_ends r e = let a = r.after [] (none_yet z) in p.same ∙ a.same finish ∙ e.same a.seen w.store
 
-  module _ (a : ReadAnswer) (is : read_number a ≡ c.fault) where
-    answered : (t : Store) → (ended c s).store ≡ t → ReadIs (read_image bytes) (record { store = t; answer = a })
-    answered t e = record {
-      store = sym (ap (λ (o : Reading). o.store) p ∙ e);
-      answer = only_read (is ∙ sym number_is);
-    }
+-- the answer of a reading
+module _ (o : Reading) where
+  pub read_accepted : (s : Store) → StoreIs o (Ok s) → ReadIs o (record { store = s; answer = Ok tt })
+  read_accepted s e = record { store = sym (ap (λ (r : Reading). r.store) e); answer = only_read (sym (ap (λ (r : Reading). r.number) e)) }
 
-    pub read_refused : (c.fault ≡ 0 → ⊥) → ReadIs (read_image bytes) (record { store = smallest; answer = a })
-    read_refused n = answered smallest (ap (λ (o : Reading). o.store) (unless_one c.fault _ n))
-
-    pub read_accepted : c.fault ≡ 0 → ReadIs (read_image bytes) (record { store = s; answer = a })
-    read_accepted z = answered s (ap (λ (k : ℕ). (unless k (record { store = s; number = 0 })).store) z)
+  pub read_refused : (f : ReadFault) → StoreIs o (Err f) → ReadIs o (record { store = smallest; answer = Err f })
+  read_refused f e = record { store = sym (ap (λ (r : Reading). r.store) e); answer = only_read (sym (ap (λ (r : Reading). r.number) e)) }

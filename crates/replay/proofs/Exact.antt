@@ -5,6 +5,7 @@ use native.Mathlib.Decide.{ℕ_discrete}
 use Rattle.stacks.specs.Count.{count}
 use Rattle.stacks.proofs.Sums.{sum_alone}
 use Rattle.marks.specs.Cassettes.{is_blank, given}
+use Rattle.lifts.specs.declared.Refusal.{Refusal}
 use Rattle.lifts.specs.Lifting.{slot_count}
 use Rattle.store.specs.declared.Store.{Store}
 use Rattle.store.specs.Accept.{store_fault, Accepted}
@@ -69,8 +70,8 @@ replay_exact s bs {x} {y} p q = record {
   carries = same_carries s bs x.carries y.carries p.store p.carries (λ c. ap (λ (t : Store). carries_of c t.slots y.carries) (p.store ∙ sym q.store) ∙ q.carries c);
 }
 
--- so it is with lifts made in lent arrays, however many counts are lent
-pub play_exact : (s : Store) (bs : List ℕ) → Accepted s → {t u : Store} {k l : List ℕ} {x y : Played} → length k ≡ length l → PlayIs (replay_from s bs) t k x
+-- so it is with lifts made in a lent store, however many counts are lent
+pub play_exact : (s : Store) (bs : List ℕ) → Accepted s → {t u : Store} {k l : List ℕ} {x y : Played Refusal} → length k ≡ length l → PlayIs (replay_from s bs) t k x
     → PlayIs (replay_from s bs) u l y → SamePlay t u k l x y
 play_exact s bs e {t} {u} {k} {l} {x} {y} n p q = record {
   store = p.store ∙ sym q.store;

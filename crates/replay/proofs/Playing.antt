@@ -1,15 +1,16 @@
 -- How the functions that replay a list answer: a replay from the middle of a list, and the outcome for each way to end.
-use Rattle.std.proofs.Common.{◌≡◌, ℕ, suc, ◌+◌, ◌-◌, ◌*◌, ◌^◌, ◌<◌, ◌≤◌, List, ◌∷◌, length, get_or, drop, set, sym, refl, ap, ◌∙◌, subst, ap₂, add-one, arith, length-set, drop_of_length-le, drop-cons}
+use Rattle.std.proofs.Common.{◌≡◌, ℕ, suc, ◌+◌, ◌-◌, ◌*◌, ◌^◌, ◌<◌, List, ◌∷◌, length, get_or, drop, set, sym, refl, ap, ◌∙◌, subst, ap₂, add-one, arith, length-set, drop_of_length-le, drop-cons}
 use native.Mathlib.Decide.{ℕ_discrete}
 use Rattle.stacks.specs.Count.{count}
+use Rattle.std.specs.Prelude.{Ok, Err}
+use Rattle.lifts.specs.declared.Carried.{Carried}
 use Rattle.lifts.specs.declared.Refusal.{Refusal}
 use Rattle.lifts.specs.Bytes.{left, entered}
 use Rattle.lifts.specs.Lifting.{most_rows, slot_count, shown}
-use Rattle.lifts.specs.Numbers.{refusal_number, judged_number}
+use Rattle.lifts.specs.Numbers.{refusal_number}
 use Rattle.lifts.proofs.Numbered.{refusal_one}
 use Rattle.store.specs.declared.Store.{Store}
 use Rattle.store.specs.declared.Fault.{Fault}
-use Rattle.store.specs.declared.Tried.{Tried}
 use Rattle.store.specs.Accept.{store_fault, Accepted}
 use Rattle.store.specs.Lifts.{Allowed, lift_refusal, lifted}
 use Rattle.store.specs.Numbers.{fault_number}
@@ -67,7 +68,7 @@ goes_start s l carries p z = record {
 
 module _ (s t : Store) (l carries : List ℕ) (n : ℕ) (g : Goes s l t carries n) where
   -- a replay that does nothing more ends here
-  ends : (v : End) → replay_from t (drop n l) ≡ none_done t (end_number v) → PlayIs (replay_from s l) t carries (record { count = n; end = v })
+  ends : (v : End Refusal) → replay_from t (drop n l) ≡ none_done t (end_number v) → PlayIs (replay_from s l) t carries (record { count = n; end = v })
   unfolding count
   ends v e = record {
     store = sym (g.reached ∙ ap (λ (o : Outcome). o.reached) e);
@@ -77,12 +78,14 @@ module _ (s t : Store) (l carries : List ℕ) (n : ℕ) (g : Goes s l t carries 
     uncounted = g.uncounted;
   }
 
-  pub goes_through : length l ≤ n → PlayIs (replay_from s l) t carries (record { count = n; end = End.RunThrough })
+  pub goes_through : n ≡ length l → PlayIs (replay_from s l) t carries (record { count = length l; end = End.RunThrough })
   unfolding replay_from
-  goes_through h = ends End.RunThrough (ap (replay_from t) (drop_of_length-le l h))
+  goes_through h =
+      subst (λ (k : ℕ). PlayIs (replay_from s l) t carries (record { count = k; end = End.RunThrough })) h
+      (ends End.RunThrough (ap (replay_from t) (drop_of_length-le l (omega arith))))
 
   -- the next lift, from x to y, was tried
-  module _ (h : n < length l) {x y : ℕ} (a : x ≡ left (get_or l n 0)) (b : y ≡ entered (get_or l n 0)) {u : Store} {r : Tried} (q : TriedIs t x y u r) where
+  module _ (h : n < length l) {x y : ℕ} (a : x ≡ left (get_or l n 0)) (b : y ≡ entered (get_or l n 0)) where
     -- what is left after n lifts begins with it
     next : replay_from t (drop n l) ≡ replay_from t (get_or l n 0 ∷ drop (suc n) l)
     next = ap (replay_from t) (drop-cons l n 0 h)
@@ -90,16 +93,16 @@ module _ (s t : Store) (l carries : List ℕ) (n : ℕ) (g : Goes s l t carries 
     same_lift : lift_refusal t x y ≡ lift_refusal t (left (get_or l n 0)) (entered (get_or l n 0))
     same_lift = rw (a, b)
 
-    pub goes_stopped : (f : Refusal) → refusal_number f ≡ judged_number r.judged → PlayIs (replay_from s l) u carries (record { count = n; end = End.Stopped f })
-    goes_stopped f e =
-        let k : refusal_number f ≡ lift_refusal t x y = e ∙ q.judged.has in
+    pub goes_stopped : {u : Store} (f : Refusal) → TriedIs t x y u (Err f) → PlayIs (replay_from s l) u carries (record { count = n; end = End.Stopped f })
+    goes_stopped f q =
+        let k : refusal_number f ≡ lift_refusal t x y = q.answer.has in
         rw (tried_stays t x y q (λ z. refusal_one f (k ∙ z)))
         (ends (End.Stopped f) (next ∙ replay_stops t _ _ (refusal_number f) (sym (k ∙ same_lift)) (refusal_one f)))
 
     -- and made
-    module _ (d : judged_number r.judged ≡ 0) where
+    module _ {u : Store} {r : Carried} (q : TriedIs t x y u (Ok r)) where
       none_refuses : lift_refusal t x y ≡ 0
-      none_refuses = sym q.judged.has ∙ d
+      none_refuses = q.answer.0
 
       allowed : Allowed t x y
       allowed = none_allowed t x y none_refuses
@@ -111,12 +114,12 @@ module _ (s t : Store) (l carries : List ℕ) (n : ℕ) (g : Goes s l t carries 
       moved = subst (Moved t x y) (sym made) (lift_moves t x y g.shaped allowed)
 
       -- it can be counted
-      pub can_count : length l < 2 ^ 64 → CanCount carries u.heights x y r.carried.row.0
+      pub can_count : length l < 2 ^ 64 → CanCount carries u.heights x y r.row.0
       can_count i = record {
         left_below = omega (arith, allowed.left_below, g.shaped.shafts);
         left_row = omega (arith, moved.lower, g.shaped.heights x, g.shaped.rows x);
         entered_below = omega (arith, allowed.entered_below, g.shaped.shafts);
-        entered_row = (omega (arith, (q.tells.done none_refuses).top, moved.higher), omega (arith, (q.tells.done none_refuses).top, moved.higher, allowed.room, g.shaped.rows y));
+        entered_row = (omega (arith, q.answer.1.0.top, moved.higher), omega (arith, q.answer.1.0.top, moved.higher, allowed.room, g.shaped.rows y));
         few = omega (arith, g.few (16 * x + height u x));
       }
 
@@ -138,13 +141,13 @@ module _ (s t : Store) (l carries : List ℕ) (n : ℕ) (g : Goes s l t carries 
             never_zero s l g.accepted,
           )
 
-      pub goes_lifted : {carries' : List ℕ} → CountIs carries (16 * x + height u x) (16 * y + (r.carried.row.0 - 1)) carries' → Goes s l u carries' (n + 1)
+      pub goes_lifted : {carries' : List ℕ} → CountIs carries (16 * x + height u x) (16 * y + (r.row.0 - 1)) carries' → Goes s l u carries' (n + 1)
       unfolding count
       goes_lifted {carries'} w =
           let i = 16 * x + height u x in
-          let j = 16 * y + (r.carried.row.0 - 1) in
+          let j = 16 * y + (r.row.0 - 1) in
           let left : i ≡ 16 * x + (height t x - 1) = omega (arith, moved.lower) in
-          let entered : j ≡ 16 * y + height t y = omega (arith, (q.tells.done none_refuses).top, moved.higher) in
+          let entered : j ≡ 16 * y + height t y = omega (arith, q.answer.1.0.top, moved.higher) in
           rw (add-one) (record {
             accepted = g.accepted;
             shaped = subst Shaped (sym made) (lifted_shaped t x y g.shaped allowed);
@@ -173,7 +176,7 @@ module _ (s t : Store) (l carries : List ℕ) (n : ℕ) (g : Goes s l t carries 
             ];
           })
 
-pub replay_played : (s t : Store) (l carries : List ℕ) (r : Played) → store_fault s ≡ 0 → length carries ≡ slot_count → PlayIs (replay_from s l) t carries r
+pub replay_played : (s t : Store) (l carries : List ℕ) (r : Played Refusal) → store_fault s ≡ 0 → length carries ≡ slot_count → PlayIs (replay_from s l) t carries r
     → ReplayIs (replay s l) (record { store = t; carries = carries; count = r.count; end = r.end })
 replay_played s t l carries r e n p = rw (replay_accepted s l e) (record { store = p.store; count = p.count; end = p.end; carries = p.counted n })
 

@@ -3,6 +3,7 @@ use Rattle.std.specs.Prelude.{◌≡◌, ℕ, List, length, ◌==◌, ◌≢◌,
 use Rattle.stacks.specs.Count.{sum}
 use Rattle.marks.specs.Cassettes.{given}
 use Rattle.lifts.specs.Lifting.{slot_count}
+use Rattle.lifts.specs.declared.Refusal.{Refusal}
 use Rattle.lifts.specs.Numbers.{Only}
 use Rattle.store.specs.declared.Store.{Store}
 use Rattle.replay.specs.declared.Played.{Played}
@@ -23,9 +24,9 @@ pub record ReplayIs (o : Outcome) (r : Replayed) : Type 0 where
   pub end : Only end_number o.number r.end
   pub carries : (c : ℕ) → carries_of c r.store.slots r.carries ≡ times_carried o c
 
--- The lifts of a list, made in lent arrays, came to an outcome; t and carries are what they left. With a count for each slot, the counts say how often each
+-- The lifts of a list, made in a lent store, came to an outcome; t and carries are what they left. With a count for each slot, the counts say how often each
 -- cassette was carried; else they are still 0.
-pub record PlayIs (o : Outcome) (t : Store) (carries : List ℕ) (r : Played) : Type 0 where
+pub record PlayIs (o : Outcome) (t : Store) (carries : List ℕ) (r : Played Refusal) : Type 0 where
   pub store : t ≡ o.reached
   pub count : r.count ≡ o.count
   pub end : Only end_number o.number r.end

@@ -2,6 +2,7 @@
 -- over the slots that show one.
 use Rattle.std.specs.Prelude.{◌≡◌, ℕ, ◌<◌, false, List, length, ◌≢◌, slice_index}
 use Rattle.marks.specs.Cassettes.{is_blank}
+use Rattle.lifts.specs.declared.Refusal.{Refusal}
 use Rattle.lifts.specs.Lifting.{slot_count}
 use Rattle.store.specs.declared.Store.{Store}
 use Rattle.replay.specs.declared.Played.{Played}
@@ -20,8 +21,8 @@ pub record SameReplay (x y : Replayed) : Type 0 where
   pub end : x.end ≡ y.end
   pub carries : SameCarries x.store.slots x.carries y.carries
 
--- Two answers of lifts made in lent arrays, with the stores and the counts that they left.
-pub record SamePlay (t u : Store) (k l : List ℕ) (x y : Played) : Type 0 where
+-- Two answers of lifts made in a lent store, with the stores and the counts that they left.
+pub record SamePlay (t u : Store) (k l : List ℕ) (x y : Played Refusal) : Type 0 where
   pub store : t ≡ u
   pub played : x ≡ y
   pub counted : length k ≡ slot_count → SameCarries t.slots k l

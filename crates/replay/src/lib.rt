@@ -3,27 +3,23 @@
 #![tactic(auto)]
 
 ghost use Rattle.std.specs.Prelude.{◌≡◌, ◌+◌, ◌-◌, ◌*◌, ◌%◌, ◌^◌};
-ghost use Rattle.marks.specs.Cassettes.{given};
 ghost use Rattle.lifts.specs.Lifting.{height_in};
 ghost use Rattle.store.specs.Accept.{Accepted};
-ghost use Rattle.store.specs.Slots.{held};
 ghost use Rattle.replay.specs.Counting.{NoneCounted, CanCount, CountIs};
 ghost use Rattle.replay.specs.Promises.{carries_of, PlayIs, ReplayIs};
 ghost use Rattle.replay.specs.Replaying.{replay_from, replay};
 
-use depths::Depths;
 use lift_bytes::{entered_of, left_of};
-use lifts::{Heights, Judged, Refusal, Row, Shaft, Slots, height_at};
+use lifts::{Heights, Refusal, Row, Shaft, height_at};
 use marks::Cassette;
-use std::num::wrapping_add_usize;
 use store::lift::try_lift;
-use store::{Fault, Store, Verdict};
+use store::{Fault, Store};
 
-// How a replay ends.
+// How a run ends: after its last step; at a step that is refused, with why; or before its first, as the store is refused.
 #[derive(Clone, Copy)]
-pub enum End {
+pub enum End<R> {
     RunThrough,
-    Stopped(Refusal),
+    Stopped(R),
     StoreRefused(Fault),
 }
 
@@ -37,14 +33,7 @@ pub struct Replayed {
     pub store: Store,
     pub carries: Carries,
     pub count: usize,
-    pub end: End,
-}
-
-// The count, or 0 where the test fails.
-fn count_if(test: bool, times: usize) -> usize
-    ensures { result ≡ given test times }
-{
-    if test { times } else { 0 }
+    pub end: End<Refusal>,
 }
 
 impl Replayed {
@@ -52,31 +41,21 @@ impl Replayed {
     pub fn carries_of(self, c: Cassette) -> usize
         ensures { result ≡ carries_of c self.store.slots self.carries % 2 ^ 64 }
     {
-        let store = self.store;
-        let slots = store.slots;
-        let carries = self.carries;
         let mut times: usize = 0;
-        let mut i: usize = 0;
-        while i < 256 {
-            times = wrapping_add_usize(times, count_if(c == slots[i], carries[i]));
-            i += 1;
+        for i in 0..256 {
+            if self.store.slots[i] == c {
+                times = times.wrapping_add(self.carries[i]);
+            }
         }
         times
     }
 }
 
-// The count of lifts done, and how the replay ended.
+// The count of steps done, and how the run ended.
 #[derive(Clone, Copy)]
-pub struct Played {
+pub struct Played<R> {
     pub count: usize,
-    pub end: End,
-}
-
-// A count of 0 beside each slot.
-fn no_carries() -> Carries
-    ensures { NoneCounted result }
-{
-    [0; 256]
+    pub end: End<R>,
 }
 
 // After a lift that landed in a row: the count of its cassette goes with it, one more. Where there isn't a count for each slot, none
@@ -94,40 +73,28 @@ fn count_carry(carries: &mut [usize], heights: &Heights, from: Shaft, to: Shaft,
     carries[16 * (to.0 as usize) + (row.0 as usize - 1)] = times + 1;
 }
 
-// The lifts of a list, one after the other, on an accepted store of m shafts with these depths, whose heights and slots are changed in place. A
-// count of 0 is lent for each slot, or none at all where nobody asks how often a cassette was carried.
-pub fn play(
-    m: u8,
-    depths: Depths,
-    heights: &mut Heights,
-    slots: &mut Slots,
-    carries: &mut [usize],
-    list: &[u8],
-) -> Played
-    requires accepted { Accepted (held m depths heights.old slots.old) }
+// The lifts of a list, one after the other, made in an accepted store. A count of 0 is lent for each slot, or none at all where nobody asks how often
+// a cassette was carried.
+pub fn play(s: &mut Store, carries: &mut [usize], list: &[u8]) -> Played<Refusal>
+    requires accepted { Accepted s.old }
     requires none_counted { NoneCounted carries.old }
-    ensures { PlayIs (replay_from (held m depths heights.old slots.old) list.now) (held m depths heights.new slots.new) carries.new result }
+    ensures { PlayIs (replay_from s.old list.now) s.new carries.new result }
 {
-    let mut count: usize = 0;
-    while count < list.len() {
-        let b = list[count];
-        let from = left_of(b);
-        let to = entered_of(b);
-        let tried = try_lift(m, depths, heights, slots, from, to);
-        let judged = tried.judged;
-        if let Judged::Refused(r) = judged {
-            return Played {
-                count,
-                end: End::Stopped(r),
-            };
+    for (count, b) in list.iter().enumerate() {
+        let from = left_of(*b);
+        let to = entered_of(*b);
+        match try_lift(s, from, to) {
+            Ok(carried) => count_carry(carries, &s.heights, from, to, carried.row),
+            Err(r) => {
+                return Played {
+                    count,
+                    end: End::Stopped(r),
+                };
+            }
         }
-        let carried = tried.carried;
-        let row = carried.row;
-        count_carry(carries, heights, from, to, row);
-        count += 1;
     }
     Played {
-        count,
+        count: list.len(),
         end: End::RunThrough,
     }
 }
@@ -136,10 +103,8 @@ pub fn play(
 pub fn replay(s: Store, list: &[u8]) -> Replayed
     ensures { ReplayIs (replay s list.now) result }
 {
-    let mut carries = no_carries();
-    let checked = s.check();
-    let verdict = checked.verdict;
-    if let Verdict::Refused(f) = verdict {
+    let mut carries = [0; 256];
+    if let Err(f) = s.check() {
         return Replayed {
             store: s,
             carries,
@@ -147,20 +112,12 @@ pub fn replay(s: Store, list: &[u8]) -> Replayed
             end: End::StoreRefused(f),
         };
     }
-    let depths = s.depths;
-    let mut heights = s.heights;
-    let mut slots = s.slots;
-    let played = play(s.m, depths, &mut heights, &mut slots, &mut carries, list);
-    let end = played.end;
+    let mut store = s;
+    let played = play(&mut store, &mut carries, list);
     Replayed {
-        store: Store {
-            m: s.m,
-            depths,
-            heights,
-            slots,
-        },
+        store,
         carries,
         count: played.count,
-        end,
+        end: played.end,
     }
 }

@@ -5,33 +5,21 @@ ghost use Rattle.replay_call.specs.ReplayCall.{ReplayCallIs};
 
 use calls::{answer, read_lent, refused};
 use fields::form_in;
-use numbers::end_number;
+use numbers::Numbered;
 use replay::play;
-use store::Store;
 use writing::write;
 
 // Plays a list on a store and writes the store reached, in the form of the image given, or nothing.
 pub fn call_replay(image: &[u8], list: &[u8], out: &mut [u8]) -> u64
     ensures { ReplayCallIs image.now list.now out.old result out.new }
 {
-    let one = read_lent(image, out.len());
-    let number = one.number;
-    if number != 0 {
-        return refused(number, out);
+    let lent = read_lent(image, out.len());
+    if let Err(f) = lent.answer {
+        return refused(f.number(), out);
     }
-    let s = one.store;
-    let depths = s.depths;
-    let mut heights = s.heights;
-    let mut slots = s.slots;
-    let mut uncounted: [usize; 0] = [];
-    let played = play(s.m, depths, &mut heights, &mut slots, &mut uncounted, list);
-    let reached = Store {
-        m: s.m,
-        depths,
-        heights,
-        slots,
-    };
-    write(form_in(image), reached, out);
-    let end = played.end;
-    answer(played.count, end_number(end))
+    let mut reached = lent.store;
+    let played = play(&mut reached, &mut [], list);
+    // Nothing refuses it: the image's form holds what lifts lead to, in as many bytes.
+    let _ = write(form_in(image), reached, out);
+    answer(played.count, played.end.number())
 }

@@ -34,19 +34,11 @@ pub struct Lift {
     pub to: Shaft,
 }
 
-// A shaft that was looked for.
-#[derive(Clone, Copy)]
-pub enum Search {
-    At(Shaft),
-    Nowhere,
-}
-
 // The depth of a shaft.
 pub fn depth(f: Frame, x: Shaft) -> u8
     ensures { result ≡ depth_in f x.0 }
 {
-    let depths = f.depths;
-    depth_of(depths, x.0 as usize)
+    depth_of(f.depths, x.0 as usize)
 }
 
 // Whether lifts may use a shaft.
@@ -62,9 +54,7 @@ pub fn room(f: Frame, heights: &Heights, x: Shaft) -> usize
     requires usable { Usable f.m x.0 }
     ensures { result + height_in heights.now x.0 ≡ depth_in f x.0 }
 {
-    let d = depth(f, x);
-    let i = x.0 as usize;
-    (d - heights[i]) as usize
+    (depth(f, x) - heights[x.0 as usize]) as usize
 }
 
 // Whether c has room and is another than a and b.
@@ -72,33 +62,17 @@ pub fn is_outside(f: Frame, heights: &Heights, a: Shaft, b: Shaft, c: Shaft) -> 
     requires { Fits f heights.now }
     ensures { Decides result (Outside f.m (depth_in f) a.0 b.0 (height_in heights.now) c.0) }
 {
-    if !usable(f, c) {
-        return false;
-    }
-    if c.0 == a.0 {
-        return false;
-    }
-    if c.0 == b.0 {
-        return false;
-    }
-    let d = depth(f, c);
-    let i = c.0 as usize;
-    heights[i] < d
+    usable(f, c) && c.0 != a.0 && c.0 != b.0 && heights[c.0 as usize] < depth(f, c)
 }
 
 // A shaft that has room and is another than a and b, or that none from `start` on is one. Which one is free.
-pub fn outside_from(f: Frame, heights: &Heights, a: Shaft, b: Shaft, start: Shaft) -> Search
+pub fn outside_from(f: Frame, heights: &Heights, a: Shaft, b: Shaft, start: Shaft) -> Option<Shaft>
     requires { Fits f heights.now }
     ensures { OutsideIs f heights.now a.0 b.0 start.0 result }
 {
-    let mut x = start.0;
-    while x < f.m {
-        if is_outside(f, heights, a, b, Shaft(x)) {
-            return Search::At(Shaft(x));
-        }
-        x += 1;
-    }
-    Search::Nowhere
+    (start.0..f.m)
+        .map(Shaft)
+        .find(|x| is_outside(f, heights, a, b, *x))
 }
 
 // A shaft that has room and is another than a and b, where there is one. Which one is free, and any start will do.
@@ -107,10 +81,10 @@ pub fn aside(f: Frame, heights: &Heights, a: Shaft, b: Shaft, start: Shaft) -> S
     requires some_outside { SomeOutside f heights.now a.0 b.0 }
     ensures { Outside f.m (depth_in f) a.0 b.0 (height_in heights.now) result.0 }
 {
-    if let Search::At(c) = outside_from(f, heights, a, b, start) {
+    if let Some(c) = outside_from(f, heights, a, b, start) {
         return c;
     }
-    if let Search::At(c) = outside_from(f, heights, a, b, Shaft(0)) {
+    if let Some(c) = outside_from(f, heights, a, b, Shaft(0)) {
         return c;
     }
     a

@@ -1,7 +1,8 @@
 -- A lent top row filled again, and the whole round.
+use Rattle.std.proofs.Common.{Some}
 use mathlib.Core.List.{List}
 use mathlib.Core.Path.{◌≡◌, refl, sym, ap, ◌∙◌, subst}
-use Prim.Native.Nat.{ℕ, suc, ◌+◌, ◌*◌, ◌-◌, ◌≤◌, ◌<◌}
+use Prim.Native.Nat.{ℕ, suc, ◌+◌, ◌*◌, ◌-◌, ◌≤◌}
 use native.Mathlib.Omega.{arith}
 use lib.ListN.{length, set}
 use Rattle.stacks.proofs.Sums.{everywhere}
@@ -19,20 +20,16 @@ use Rattle.lifts.specs.declared.Shaft.{Shaft}
 use Rattle.agreeing.specs.Agreeing.{wanted_in}
 use Rattle.finding.specs.Finding.{Stands, Somewhere}
 use Rattle.choices.specs.Choices.{RoundFor}
-use Rattle.turns.specs.declared.Owed.{Owed}
 use Rattle.turns.specs.declared.Turned.{Turned}
 use Rattle.turns.specs.Turning.{OnTheWay, Ready}
 use Rattle.serving.specs.Serving.{deepest, Lent, ServedOwed, ServedIs}
 use Rattle.rounds.specs.Rounds.{CanRestore, GrownIs}
-use Rattle.turns.proofs.Way.{passed_length, stands_over, done_now, tops_deep, somewhere}
+use Rattle.turns.proofs.Way.{passed_length, stands_over, done_now, somewhere}
 use Rattle.turns.proofs.Turns.{see}
 use Rattle.serving.proofs.Bringing.{can_place, one_more_set, way_grown}
 use Rattle.serving.proofs.Servings.{heights_deepest, already}
 
 module _ {f : Frame} {tops goal done heights slots : List ℕ} {c : Shaft} (w : OnTheWay f tops goal done heights slots) (k : CanRestore f tops done c.0) where
-  pub restore_row : (c.0 < 16) × (height_in done c.0 < 16)
-  restore_row = (omega (arith, k.usable, w.held.shaped.shafts), omega (arith, k.wanted, tops_deep w c.0, w.held.shaped.rows c.0))
-
   pub seek_ready : (v : ℕ) → v ≡ wanted_in goal done c.0 → Fits f heights × Somewhere f heights slots done v
   seek_ready v e = (shaped_fits f heights slots w.held.shaped, rw e (somewhere w c.0 k.usable k.wanted))
 
@@ -90,21 +87,9 @@ module _ {f : Frame} {tops goal done heights slots : List ℕ} {b count : ℕ} {
     (w : OnTheWay f tops goal done heights slots) (most : count + (4 * deepest f + 8) ≤ length came)
     (z : ServedIs f tops goal done heights slots b (3 * deepest f + 4) count came done' heights' slots' t mid)
   where
-    pub played_whole : t.owed ≡ Owed.Nothing → GrownIs f tops goal done heights slots b (4 * deepest f + 8) count came done' heights' slots' t.count mid
-    played_whole e = record { went = went_within (omega arith) z.went; way = z.way; more = subst (ServedOwed f b done done') e z.owed }
-
-    module _ (c : Shaft) (e : t.owed ≡ Owed.Top c) where
+    module _ (c : Shaft) (e : t.owed ≡ Some c) where
       lent : Lent f b c.0 done done'
       lent = subst (ServedOwed f b done done') e z.owed
-
-      pub restore_ready : OnTheWay f tops goal done' heights' slots' × (CanRestore f tops done' c.0 × (t.count + (deepest f + 1) ≤ length mid))
-      restore_ready = (
-        z.way,
-        (
-          record { usable = lent.usable; top = lent.top; wanted = omega (arith, lent.before, w.within c.0) },
-          omega (arith, z.went.few, z.went.room),
-        ),
-      )
 
       pub played_lent : {done'' heights'' slots'' : List ℕ} {count'' : ℕ} {out : List ℕ}
           → GrownIs f tops goal done' heights' slots' c.0 (deepest f + 1) t.count mid done'' heights'' slots'' count'' out

@@ -11,33 +11,30 @@ ghost use Rattle.rounds.specs.Rounds.{CanRestore, GrownIs, rows_left, ArrivedIs}
 use agreeing::{finished, next};
 use choices::{Round, choose};
 use finding::seek;
-use lifts::{Heights, Row, Shaft, Slots};
-use moves::Hints;
+use lifts::{Heights, Row, Shaft};
+use moves::Work;
 use placing::place::place;
 use rooms::{Frame, Spot};
 use serving::serve;
-use turns::Owed;
+use store::Store;
 
 // Fills the top row of a shaft again.
 fn restore(
     f: Frame,
-    tops: Heights,
-    goal: &Slots,
+    goal: &Store,
     done: &mut Heights,
-    heights: &mut Heights,
-    slots: &mut Slots,
-    hints: &mut Hints,
+    work: &mut Work,
     shaft: Shaft,
     count: usize,
     out: &mut [u8],
 ) -> usize
-    requires on_the_way { OnTheWay f tops goal.now done.old heights.old slots.old }
-    requires can_restore { CanRestore f tops done.old shaft.0 }
+    requires on_the_way { OnTheWay f goal.now.heights goal.now.slots done.old work.old.heights work.old.slots }
+    requires can_restore { CanRestore f goal.now.heights done.old shaft.0 }
     requires f_in_bounds { count + (deepest f + 1) ≤ length out.old }
-    ensures { GrownIs f tops goal.now done.old heights.old slots.old shaft.0 (deepest f + 1) count out.old done.new heights.new slots.new result out.new }
+    ensures { GrownIs f goal.now.heights goal.now.slots done.old work.old.heights work.old.slots shaft.0 (deepest f + 1) count out.old done.new work.new.heights work.new.slots result out.new }
 {
     let v = next(goal, done, shaft);
-    let at = seek(f, heights, slots, done, hints, v);
+    let at = seek(f, work, done, v);
     let i = shaft.0 as usize;
     let row = done[i] + 1;
     done[i] = row;
@@ -48,55 +45,47 @@ fn restore(
         shaft,
         row: Row(row),
     };
-    place(f, heights, slots, hints, at, to, count, out)
+    place(f, work, at, to, count, out)
 }
 
 // Plays a round: one row more of its shaft is in place, and every row that was passed still is.
 pub fn play(
     f: Frame,
-    tops: Heights,
-    goal: &Slots,
+    goal: &Store,
     done: &mut Heights,
-    heights: &mut Heights,
-    slots: &mut Slots,
-    hints: &mut Hints,
+    work: &mut Work,
     r: Round,
     count: usize,
     out: &mut [u8],
 ) -> usize
-    requires on_the_way { OnTheWay f tops goal.now done.old heights.old slots.old }
-    requires round_for { RoundFor f tops goal.now done.old heights.old slots.old r }
+    requires on_the_way { OnTheWay f goal.now.heights goal.now.slots done.old work.old.heights work.old.slots }
+    requires round_for { RoundFor f goal.now.heights goal.now.slots done.old work.old.heights work.old.slots r }
     requires f_in_bounds { count + (4 * deepest f + 8) ≤ length out.old }
-    ensures { GrownIs f tops goal.now done.old heights.old slots.old r.to.0 (4 * deepest f + 8) count out.old done.new heights.new slots.new result out.new }
+    ensures { GrownIs f goal.now.heights goal.now.slots done.old work.old.heights work.old.slots r.to.0 (4 * deepest f + 8) count out.old done.new work.new.heights work.new.slots result out.new }
 {
-    let t = serve(f, tops, goal, done, heights, slots, hints, r, count, out);
-    let owed = t.owed;
-    let end = t.count;
-    if let Owed::Top(c) = owed {
-        return restore(f, tops, goal, done, heights, slots, hints, c, end, out);
+    let t = serve(f, goal, done, work, r, count, out);
+    match t.owed {
+        Some(c) => restore(f, goal, done, work, c, t.count, out),
+        None => t.count,
     }
-    end
 }
 
 // Plays rounds until every row of the goal is passed, and gives the end of the list. `done` says how many rows of each shaft are passed already.
 pub fn play_all(
     f: Frame,
-    tops: Heights,
-    goal: &Slots,
+    goal: &Store,
     done: &mut Heights,
-    heights: &mut Heights,
-    slots: &mut Slots,
-    hints: &mut Hints,
+    work: &mut Work,
     out: &mut [u8],
 ) -> usize
-    requires on_the_way { OnTheWay f tops goal.now done.old heights.old slots.old }
-    requires f_in_bounds { rows_left f tops done.old * (4 * deepest f + 8) ≤ length out.old }
-    ensures { ArrivedIs f tops goal.now done.old heights.old slots.old out.old done.new heights.new slots.new result out.new }
+    requires on_the_way { OnTheWay f goal.now.heights goal.now.slots done.old work.old.heights work.old.slots }
+    requires f_in_bounds { rows_left f goal.now.heights done.old * (4 * deepest f + 8) ≤ length out.old }
+    ensures { ArrivedIs f goal.now.heights goal.now.slots done.old work.old.heights work.old.slots out.old done.new work.new.heights work.new.slots result out.new }
 {
     let mut count: usize = 0;
-    while !finished(f, tops, done) {
-        let r = choose(f, tops, goal, done, heights, slots, hints);
-        count = play(f, tops, goal, done, heights, slots, hints, r, count, out);
+    while !finished(f, goal, done) {
+        let r = choose(f, goal, done, work);
+        count = play(f, goal, done, work, r, count, out);
     }
     count
 }

@@ -3,9 +3,11 @@ use mathlib.Core.List.{List, ◌++◌, append-nil}
 use mathlib.Core.Path.{◌≡◌, refl, sym, subst, ◌∙◌}
 use Prim.Native.Nat.{ℕ, suc, ◌<◌}
 use native.Mathlib.Omega.{arith}
-use Rattle.marks.specs.declared.Taken.{Taken}
+use Rattle.std.specs.Prelude.{Ok, Err}
+use Rattle.marks.specs.declared.CassetteFault.{CassetteFault}
+use Rattle.marks.specs.declared.CassetteFault.TheVariants.{NoCassette, Twice}
 use Rattle.marks.specs.Marking.{Marked}
-use Rattle.marks.specs.Taking.{taken_number, TakenIs}
+use Rattle.marks.specs.Taking.{cassette_number, TakenIs}
 use Rattle.lifts.specs.Lifting.{shown}
 use Rattle.rows.specs.Rows.{rows_up, rows_fault, RowsAre}
 use Rattle.rows.proofs.Walk.{row_after, row_met, row_passed}
@@ -19,35 +21,29 @@ pub no_rows : (words slots : List ℕ) (x : ℕ) → RowsSoFar words slots x 0 w
 unfolding rows_fault rows_up
 no_rows words slots x = record { none = λ before m. refl; marks = λ before m. subst (Marked words) (sym (append-nil before)) m }
 
-taken_one : (r : Taken) → (r ≡ Taken.Added → ⊥) → taken_number r ≡ 0 → ⊥
-taken_one Taken.Added n e = n refl
-taken_one Taken.NoCassette n e = omega arith
-taken_one Taken.Twice n e = omega arith
-
-refused_words : (r : Taken) → (r ≡ Taken.Added → ⊥) → {words words' : List ℕ} {c : ℕ} → TakenIs words c words' r → words' ≡ words
-refused_words Taken.Added n t = absurd (n refl)
-refused_words Taken.NoCassette n t = t.words_are
-refused_words Taken.Twice n t = t.words_are
+cassette_some : (f : CassetteFault) → cassette_number f ≡ 0 → ⊥
+cassette_some NoCassette e = omega arith
+cassette_some Twice e = omega arith
 
 module _ {words slots : List ℕ} {x k : ℕ} {words' words'' : List ℕ} (p : RowsSoFar words slots x k words') where
-  pub row_taken : TakenIs words' (shown slots x (suc k)) words'' Taken.Added → RowsSoFar words slots x (suc k) words''
+  pub row_taken : TakenIs words' (shown slots x (suc k)) words'' (Ok tt) → RowsSoFar words slots x (suc k) words''
   row_taken t = record {
     none = λ before m. row_passed before slots x k (p.none before m) (sym (t.fault _ (p.marks before m)));
     marks = λ before m. subst (Marked words'') (row_after before slots x k) (t.marks _ (p.marks before m));
   }
 
-  pub row_refused : (r : Taken) (rows : ℕ) → TakenIs words' (shown slots x (suc k)) words'' r → (r ≡ Taken.Added → ⊥) → k < rows → RowsAre words slots x rows words'' r
-  row_refused r rows t n h = record {
-    fault = λ before m. sym (row_met before slots x k rows (taken_number r) (p.none before m) (sym (t.fault _ (p.marks before m))) (taken_one r n) h);
-    marks = λ before m z. absurd (n z);
-    refused = λ _. record {
+  pub row_refused : (f : CassetteFault) (rows : ℕ) → TakenIs words' (shown slots x (suc k)) words'' (Err f) → k < rows → RowsAre words slots x rows words'' (Err f)
+  row_refused f rows t h = record {
+    fault = λ before m. sym (row_met before slots x k rows (cassette_number f) (p.none before m) (sym (t.fault _ (p.marks before m))) (cassette_some f) h);
+    marks = λ before m z. absurd (cc);
+    refused = λ _ _. record {
       below = k;
       few = h;
       none = p.none;
-      met = λ before m e. taken_one r n (t.fault _ (p.marks before m) ∙ e);
-      marks = λ before m. rw (refused_words r n t) (p.marks before m);
+      met = λ before m e. cassette_some f (t.fault _ (p.marks before m) ∙ e);
+      marks = λ before m. rw t.words_are (p.marks before m);
     };
   }
 
-pub rows_taken : {words slots : List ℕ} {x rows : ℕ} {words' : List ℕ} → RowsSoFar words slots x rows words' → RowsAre words slots x rows words' Taken.Added
-rows_taken p = record { fault = λ before m. sym (p.none before m); marks = λ before m e. p.marks before m; refused = λ n. absurd (n refl) }
+pub rows_taken : {words slots : List ℕ} {x rows : ℕ} {words' : List ℕ} → RowsSoFar words slots x rows words' → RowsAre words slots x rows words' (Ok tt)
+rows_taken p = record { fault = λ before m. sym (p.none before m); marks = λ before m e. p.marks before m; refused = λ f e. absurd (cc) }

@@ -1,6 +1,6 @@
 -- The rows of one shaft, read upward and downward, and the first fault of its cassettes, in image order (request 3/13).
-use Rattle.std.specs.Prelude.{List, [], ◌∷◌, ◌++◌, ◌≡◌, ℕ, zero, suc, ◌<◌}
-use Rattle.marks.specs.declared.Taken.{Taken}
+use Rattle.std.specs.Prelude.{List, [], ◌∷◌, ◌++◌, ◌≡◌, ℕ, zero, suc, ◌<◌, Result, Ok, Err}
+use Rattle.marks.specs.declared.CassetteFault.{CassetteFault}
 use Rattle.marks.specs.Cassettes.{first, cassette_fault}
 use Rattle.marks.specs.Marking.{Marked}
 use Rattle.marks.specs.Taking.{taken_number}
@@ -30,7 +30,7 @@ pub record RowRefused (words slots : List ℕ) (x k : ℕ) (words' : List ℕ) :
   pub marks : (before : List ℕ) → Marked words before → Marked words' (before ++ rows_up slots x below)
 
 -- Rows 1 to k of shaft x were taken after the cassettes that the words marked; or the first fault was found, and the words mark the rows below it.
-pub record RowsAre (words slots : List ℕ) (x k : ℕ) (words' : List ℕ) (r : Taken) : Type 0 where
+pub record RowsAre (words slots : List ℕ) (x k : ℕ) (words' : List ℕ) (r : Result Unit CassetteFault) : Type 0 where
   pub fault : (before : List ℕ) → Marked words before → taken_number r ≡ rows_fault before slots x k
-  pub marks : (before : List ℕ) → Marked words before → r ≡ Taken.Added → Marked words' (before ++ rows_up slots x k)
-  pub refused : (r ≡ Taken.Added → ⊥) → RowRefused words slots x k words'
+  pub marks : (before : List ℕ) → Marked words before → r ≡ Ok tt → Marked words' (before ++ rows_up slots x k)
+  pub refused : (f : CassetteFault) → r ≡ Err f → RowRefused words slots x k words'

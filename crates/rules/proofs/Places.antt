@@ -1,19 +1,20 @@
--- What stands at each place of the reading, how long it is, and that rows read upward agree exactly if they agree slot by slot.
-use mathlib.Core.List.{List, [], ◌∷◌, ◌++◌, append_assoc, reverse, reverse-reverse}
-use mathlib.Core.Path.{◌≡◌, sym, ap, ◌∙◌}
+-- What stands at each place of the reading, how long it is, and that the rows of a shaft are a stretch of the slots.
+use mathlib.Core.List.{List, [], ◌∷◌, ◌++◌, append_assoc}
+use mathlib.Core.Path.{◌≡◌, refl, sym, ap, ◌∙◌}
 use Prim.Native.Nat.{ℕ, zero, suc, ◌+◌, ◌-◌, ◌*◌, ◌≤◌, ◌<◌}
 use native.Mathlib.Decide.{dec_lt}
 use native.Mathlib.Omega.{arith}
-use lib.ListN.{length, get_or, length-reverse_aux}
-use lib.Seq.{ext_get_or}
+use lib.ListN.{length, get_or, take, drop, length-drop, length-reverse_aux}
+use lib.Seq.{take-suc, ext_get_or}
+use Rattle.std.proofs.lemmas.List.{get_or-drop}
 use Rattle.lifts.specs.Lifting.{shown}
 use Rattle.stacks.specs.TwoStackReading.{two_stack_reading}
 use Rattle.store.specs.declared.Store.{Store}
-use Rattle.store.specs.Slots.{held, height, slot, upward, downward, stack}
+use Rattle.store.specs.Slots.{height, slot, upward, downward, stack}
 use Rattle.rows.specs.Rows.{rows_down, rows_up}
-use Rattle.store.proofs.Rows.{stack_length, same_rows, rows_same}
+use Rattle.store.proofs.Rows.{stack_length}
 use Rattle.reach.specs.Rules.{two_shaft_reading}
-use Rattle.reach.proofs.Agree.{upward_reversed, reading_agrees}
+use Rattle.reach.proofs.Agree.{reading_agrees}
 
 module _ (s : Store) where
   -- what follows rows 1 to k
@@ -71,17 +72,14 @@ module _ (s t : Store) where
   same_readings n e f g =
       ext_get_or 0 (two_shaft_reading s) (two_shaft_reading t) (reading_length s ∙ sym e ∙ f ∙ sym (reading_length t)) λ p h. g p (omega (arith, reading_length s))
 
--- rows 1 to k of shaft x agree exactly if they agree slot by slot
-module _ (a b : List ℕ) where
-  pub rows_so : (x k : ℕ) → ((i : ℕ) → i < k → shown a x (suc i) ≡ shown b x (suc i)) → rows_up a x k ≡ rows_up b x k
-  rows_so x k g =
-      let s : Store = held 0 [] [] a in
-      let t : Store = held 0 [] [] b in
-      upward_reversed s x k ∙ ap reverse (same_rows s t x k g) ∙ sym (upward_reversed t x k)
+-- rows 1 to k of shaft x are a stretch of the slots
+rows_taken : (l : List ℕ) (x k : ℕ) → 16 * x + k ≤ length l → rows_up l x k ≡ take k (drop (16 * x) l)
+unfolding rows_up shown
+rows_taken l x zero h = refl
+rows_taken l x (suc k) h =
+    let here : k < length (drop (16 * x) l) = simp length-drop (omega arith) in
+    ap (λ (w : List ℕ). w ++ (get_or l (16 * x + k) 0 ∷ [])) (rows_taken l x k (omega arith))
+    ∙ sym (take-suc (drop (16 * x) l) k 0 here ∙ ap (λ (v : ℕ). take k (drop (16 * x) l) ++ (v ∷ [])) (get_or-drop (16 * x) l k 0))
 
-  pub rows_each : (x k i : ℕ) → rows_up a x k ≡ rows_up b x k → i < k → shown a x (suc i) ≡ shown b x (suc i)
-  rows_each x k i e h =
-      let s : Store = held 0 [] [] a in
-      let t : Store = held 0 [] [] b in
-      rows_same s t x k i
-      (sym (reverse-reverse (downward s x k)) ∙ ap reverse (sym (upward_reversed s x k) ∙ e ∙ upward_reversed t x k) ∙ reverse-reverse (downward t x k)) h
+pub rows_stretch : (l : List ℕ) (x k : ℕ) → 16 * x + k ≤ length l → rows_up l x k ≡ take (16 * x + k - 16 * x) (drop (16 * x) l)
+rows_stretch l x k h = rows_taken l x k h ∙ ap (λ (n : ℕ). take n (drop (16 * x) l)) (omega arith)

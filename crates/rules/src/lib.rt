@@ -13,7 +13,7 @@ ghost use Rattle.reach.specs.Rules.{two_shaft_reading, Rule};
 
 use depths::{Depths, depth_of};
 use empties::empty_slots;
-use lifts::{Slots, slot_at};
+use lifts::Slots;
 use marks::Cassette;
 use store::Store;
 
@@ -37,12 +37,10 @@ fn same_reading(s: Store, t: Store, n: usize) -> bool
     requires n_value { (n ≡ height s 0 + height s 1) × (n ≡ height t 0 + height t 1) }
     ensures { Decides result (two_shaft_reading s ≡ two_shaft_reading t) }
 {
-    let mut p: usize = 0;
-    while p < n {
+    for p in 0..n {
         if read_at(s, n, p) != read_at(t, n, p) {
             return false;
         }
-        p += 1;
     }
     true
 }
@@ -52,14 +50,8 @@ pub fn same_rows(a: &Slots, b: &Slots, x: usize, k: usize) -> bool
     requires { (x < most_shafts) × (k ≤ most_rows) }
     ensures { Decides result (rows_up a.now x k ≡ rows_up b.now x k) }
 {
-    let mut i: usize = 0;
-    while i < k {
-        if slot_at(a, 16 * x + i) != slot_at(b, 16 * x + i) {
-            return false;
-        }
-        i += 1;
-    }
-    true
+    let bottom = 16 * x;
+    a[bottom..bottom + k] == b[bottom..bottom + k]
 }
 
 // How many rows the floor of a shaft has, which never changes: its depth less e, or none.
@@ -67,7 +59,7 @@ pub fn floor_rows(depths: Depths, x: usize, e: usize) -> usize
     ensures { result ≡ depth_by depths x - e }
 {
     let rows = depth_of(depths, x) as usize;
-    if e < rows { rows - e } else { 0 }
+    rows.saturating_sub(e)
 }
 
 // Whether the floors of the first m shafts agree.
@@ -76,12 +68,10 @@ fn same_floors(m: u8, depths: Depths, e: usize, a: &Slots, b: &Slots) -> bool
     ensures { Decides result ((x : ℕ) → x < m → rows_up a.now x (depth_by depths x - e) ≡ rows_up b.now x (depth_by depths x - e)) }
 {
     let shafts = m as usize;
-    let mut x: usize = 0;
-    while x < shafts {
+    for x in 0..shafts {
         if !same_rows(a, b, x, floor_rows(depths, x, e)) {
             return false;
         }
-        x += 1;
     }
     true
 }

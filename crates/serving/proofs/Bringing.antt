@@ -1,4 +1,5 @@
 -- A cassette brought to its row from another shaft: what is passed stays, and one row more can be passed.
+use Rattle.std.proofs.Common.{Option, Some, None}
 use mathlib.Core.List.{List, [], ◌∷◌}
 use mathlib.Core.Logic.{◌≢◌}
 use mathlib.Core.Path.{◌≡◌, refl, sym, ap, ◌∙◌}
@@ -15,6 +16,7 @@ use Rattle.store.proofs.Played.{leads_run}
 use Rattle.store.proofs.Rows.{downward_length}
 use Rattle.reach.proofs.Agree.{shaped_within}
 use Rattle.moves.proofs.Carrying.{went_then, went_within}
+use Rattle.lifts.specs.declared.Shaft.{Shaft}
 use Rattle.rooms.specs.declared.Frame.{Frame}
 use Rattle.rooms.specs.declared.Spot.{Spot}
 use Rattle.lifts.specs.Lifting.{height_in}
@@ -22,7 +24,6 @@ use Rattle.rooms.specs.Frames.{store_of, depth_in, Held}
 use Rattle.placing.specs.Placed.{lifts_ahead, CanPlace, PlacedIs}
 use Rattle.rooms.proofs.Bottoms.{stack_onto}
 use Rattle.agreeing.specs.Agreeing.{wanted_in}
-use Rattle.turns.specs.declared.Owed.{Owed}
 use Rattle.turns.specs.declared.Turned.{Turned}
 use Rattle.turns.specs.Turning.{passed_rows, OnTheWay, Ready, OwedIs, TurnedIs}
 use Rattle.serving.specs.Serving.{most_lifts, OneMore, ServedOwed, ServedIs}
@@ -95,9 +96,9 @@ module _ {f : Frame} {tops goal done heights slots : List ℕ} {at to : Spot} (r
           one_more_set.1 stands_there
 
 -- what is owed after a turn is owed after the placement
-served_owed : (f : Frame) (b : ℕ) (done done' done'' : List ℕ) (o : Owed) → OwedIs f b done done' o → OneMore b done' done'' → ServedOwed f b done done'' o
-served_owed f b done done' done'' Owed.Nothing h m = (m.0 ∙ ap suc (h b), λ x n. m.1 x n ∙ h x)
-served_owed f b done done' done'' (Owed.Top c) h m =
+served_owed : (f : Frame) (b : ℕ) (done done' done'' : List ℕ) (o : Option Shaft) → OwedIs f b done done' o → OneMore b done' done'' → ServedOwed f b done done'' o
+served_owed f b done done' done'' None h m = (m.0 ∙ ap suc (h b), λ x n. m.1 x n ∙ h x)
+served_owed f b done done' done'' (Some c) h m =
     let same : height_in done'' c.0 ≡ height_in done' c.0 = m.1 c.0 h.1.0 in
     record {
       usable = h.0;
@@ -109,9 +110,6 @@ served_owed f b done done' done'' (Owed.Top c) h m =
     }
 
 module _ {f : Frame} {tops goal done heights slots : List ℕ} {at to : Spot} (count : ℕ) (came : List ℕ) (most : count + most_lifts heights at to ≤ length came) where
-  pub room_ready : Ready f tops goal done heights slots at to → Ready f tops goal done heights slots at to × (count < length came)
-  room_ready r = (r, omega arith)
-
   module _ {done' heights' slots' : List ℕ} {t : Turned} {mid : List ℕ} (z : TurnedIs f tops goal done heights slots at to count came done' heights' slots' t mid) where
     -- the lifts of the placement are within the bound
     ahead_few : lifts_ahead f heights' at.shaft.0 at.row.0 to.shaft.0 to.row.0 + 1 ≤ most_lifts heights at to

@@ -1,4 +1,5 @@
 -- The cassette of a round brought to its row: in place already, out of its own shaft, or from another one.
+use Rattle.std.proofs.Common.{None}
 use mathlib.Core.List.{List, ◌∷◌}
 use mathlib.Core.Path.{◌≡◌, sym, ap, ◌∙◌, subst}
 use Prim.Native.Nat.{ℕ, ◌+◌, ◌*◌, ◌-◌, ◌≤◌, ◌<◌}
@@ -24,7 +25,6 @@ use Rattle.placing.specs.Left.{CanLeave, LeftIs}
 use Rattle.choices.specs.declared.Round.{Round}
 use Rattle.agreeing.specs.Agreeing.{wanted_in}
 use Rattle.choices.specs.Choices.{RoundFor}
-use Rattle.turns.specs.declared.Owed.{Owed}
 use Rattle.turns.specs.declared.Turned.{Turned}
 use Rattle.turns.specs.Turning.{passed_rows, OnTheWay, Ready}
 use Rattle.serving.specs.Serving.{deepest, most_lifts, OneMore, ServedIs}
@@ -48,7 +48,7 @@ module _ {f : Frame} {tops goal done heights slots : List ℕ} {q : Round} (w : 
 
   -- it is in place already
   pub already : (count : ℕ) (came : List ℕ) (row : ℕ) → row ≡ height_in done q.to.0 + 1 → q.from.shaft.0 ≡ q.to.0 → q.from.row.0 ≡ row
-      → ServedIs f tops goal done heights slots q.to.0 (3 * deepest f + 4) count came (set done q.to.0 row) heights slots (record { owed = Owed.Nothing; count = count }) came
+      → ServedIs f tops goal done heights slots q.to.0 (3 * deepest f + 4) count came (set done q.to.0 row) heights slots (record { owed = None; count = count }) came
   already count came row e s y =
       let o = stands_over f goal done heights slots r.found in
       let b : ℕ = q.to.0 in

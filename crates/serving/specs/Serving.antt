@@ -1,13 +1,13 @@
 -- What serving a shaft brings about: its next row is in place, and a top row may be owed for it.
-use Rattle.std.specs.Prelude.{List, ◌≡◌, ℕ, suc, ◌+◌, ◌-◌, ◌*◌}
+use Rattle.std.specs.Prelude.{List, Option, Some, None, ◌≡◌, ℕ, suc, ◌+◌, ◌-◌, ◌*◌}
 use Rattle.stacks.specs.Run.{Usable}
 use Rattle.stacks.specs.Count.{greatest}
 use Rattle.moves.specs.Went.{Went}
+use Rattle.lifts.specs.declared.Shaft.{Shaft}
 use Rattle.rooms.specs.declared.Frame.{Frame}
 use Rattle.rooms.specs.declared.Spot.{Spot}
 use Rattle.lifts.specs.Lifting.{height_in}
 use Rattle.rooms.specs.Frames.{store_of, depth_in}
-use Rattle.turns.specs.declared.Owed.{Owed}
 use Rattle.turns.specs.declared.Turned.{Turned}
 use Rattle.turns.specs.Turning.{OnTheWay}
 
@@ -33,9 +33,9 @@ pub record Lent (f : Frame) (b c : ℕ) (done done' : List ℕ) : Type 0 where
   pub others : (x : ℕ) → (x ≡ b → ⊥) → (x ≡ c → ⊥) → height_in done' x ≡ height_in done x
 
 -- what is passed after the placement, by what is owed
-abbrev pub ServedOwed : Frame → ℕ → List ℕ → List ℕ → Owed → Type 0
-ServedOwed f b done done' Owed.Nothing = OneMore b done done'
-ServedOwed f b done done' (Owed.Top c) = Lent f b c.0 done done'
+abbrev pub ServedOwed : Frame → ℕ → List ℕ → List ℕ → Option Shaft → Type 0
+ServedOwed f b done done' None = OneMore b done done'
+ServedOwed f b done done' (Some c) = Lent f b c.0 done done'
 
 -- The next row of b is in place, and everything passed stays, but for a top row that may be owed.
 pub record ServedIs (f : Frame) (tops goal done heights slots : List ℕ) (b most count : ℕ) (came done' heights' slots' : List ℕ) (r : Turned) (out : List ℕ) : Type 0 where

@@ -7,58 +7,53 @@ ghost use Rattle.turns.specs.Turning.{OnTheWay, Ready};
 ghost use Rattle.serving.specs.Serving.{deepest, most_lifts, ServedIs};
 
 use choices::Round;
-use lifts::{Heights, Row, Slots};
-use moves::Hints;
+use lifts::{Heights, Row};
+use moves::Work;
 use placing::leave::leave;
 use placing::place::place;
 use rooms::{Frame, Spot};
-use turns::{Owed, Turned, make_room};
+use store::Store;
+use turns::{Turned, make_room};
 
 // Brings a cassette that stands in another shaft to its row.
 fn bring(
     f: Frame,
-    tops: Heights,
-    goal: &Slots,
+    goal: &Store,
     done: &mut Heights,
-    heights: &mut Heights,
-    slots: &mut Slots,
-    hints: &mut Hints,
+    work: &mut Work,
     at: Spot,
     to: Spot,
     count: usize,
     out: &mut [u8],
 ) -> Turned
-    requires ready { Ready f tops goal.now done.old heights.old slots.old at to }
-    requires to_in_bounds { count + most_lifts heights.old at to ≤ length out.old }
-    ensures { ServedIs f tops goal.now done.old heights.old slots.old to.shaft.0 (most_lifts heights.old at to) count out.old done.new heights.new slots.new result out.new }
+    requires ready { Ready f goal.now.heights goal.now.slots done.old work.old.heights work.old.slots at to }
+    requires to_in_bounds { count + most_lifts work.old.heights at to ≤ length out.old }
+    ensures { ServedIs f goal.now.heights goal.now.slots done.old work.old.heights work.old.slots to.shaft.0 (most_lifts work.old.heights at to) count out.old done.new work.new.heights work.new.slots result out.new }
 {
-    let room = make_room(
-        f, tops, goal, done, heights, slots, hints, at, to, count, out,
-    );
-    let end = place(f, heights, slots, hints, at, to, room.count, out);
+    let room = make_room(f, goal, done, work, at, to, count, out);
+    let end = place(f, work, at, to, room.count, out);
     let i = to.shaft.0 as usize;
     done[i] = to.row.0;
-    let owed = room.owed;
-    Turned { owed, count: end }
+    Turned {
+        owed: room.owed,
+        count: end,
+    }
 }
 
 // Brings the cassette of a round to its row, out of its own shaft first if it stands in it.
 pub fn serve(
     f: Frame,
-    tops: Heights,
-    goal: &Slots,
+    goal: &Store,
     done: &mut Heights,
-    heights: &mut Heights,
-    slots: &mut Slots,
-    hints: &mut Hints,
+    work: &mut Work,
     r: Round,
     count: usize,
     out: &mut [u8],
 ) -> Turned
-    requires on_the_way { OnTheWay f tops goal.now done.old heights.old slots.old }
-    requires round_for { RoundFor f tops goal.now done.old heights.old slots.old r }
+    requires on_the_way { OnTheWay f goal.now.heights goal.now.slots done.old work.old.heights work.old.slots }
+    requires round_for { RoundFor f goal.now.heights goal.now.slots done.old work.old.heights work.old.slots r }
     requires f_in_bounds { count + (3 * deepest f + 4) ≤ length out.old }
-    ensures { ServedIs f tops goal.now done.old heights.old slots.old r.to.0 (3 * deepest f + 4) count out.old done.new heights.new slots.new result out.new }
+    ensures { ServedIs f goal.now.heights goal.now.slots done.old work.old.heights work.old.slots r.to.0 (3 * deepest f + 4) count out.old done.new work.new.heights work.new.slots result out.new }
 {
     let shaft = r.to;
     let from = r.from;
@@ -71,18 +66,10 @@ pub fn serve(
     if from.shaft.0 == shaft.0 {
         if from.row.0 == row {
             done[i] = row;
-            return Turned {
-                owed: Owed::Nothing,
-                count,
-            };
+            return Turned { owed: None, count };
         }
-        let off = leave(f, heights, slots, hints, from, count, out);
-        let at = off.at;
-        return bring(
-            f, tops, goal, done, heights, slots, hints, at, to, off.count, out,
-        );
+        let off = leave(f, work, from, count, out);
+        return bring(f, goal, done, work, off.at, to, off.count, out);
     }
-    bring(
-        f, tops, goal, done, heights, slots, hints, from, to, count, out,
-    )
+    bring(f, goal, done, work, from, to, count, out)
 }

@@ -1,5 +1,5 @@
 -- Laws of rows of sets: of how many sets a shaft is.
-use mathlib.Core.Bool.{Bool, true, false}
+use mathlib.Core.Bool.{Bool, true, false, cond}
 use mathlib.Core.List.{List, [], ◌∷◌, ◌++◌}
 use mathlib.Core.Path.{◌≡◌, refl, ap, ◌∙◌}
 use Prim.Native.Nat.{ℕ, suc, ◌+◌, ◌≤◌, ◌<◌}
@@ -7,6 +7,8 @@ use native.Mathlib.Omega.{arith}
 use mir.Val.{bool_byte}
 use lib.ListN.{length, get_or, take}
 use lib.Seq.{take-suc}
+use Rattle.std.proofs.lemmas.List.Recursion.{is_count_by}
+use Rattle.std.specs.List.{count_by}
 use Rattle.stacks.specs.Count.{one}
 use Rattle.lifts.specs.Lifting.{most_shafts}
 use Rattle.sets.specs.Sets.{has, times_in}
@@ -17,18 +19,20 @@ pub bit_is : (b : Bool) → bool_byte b ≡ one b
 bit_is true = refl
 bit_is false = refl
 
-pub bit_most : (b : Bool) → bool_byte b ≤ 1
-bit_most true = omega arith
-bit_most false = omega arith
-
-pub bit_one : (b : Bool) {c : Bool} → b ≡ c → bool_byte b ≡ one c
-bit_one b e = bit_is b ∙ ap one e
-
 -- two rows one after the other
 pub times_append : (row more : List ℕ) (x : ℕ) → times_in (row ++ more) x ≡ times_in row x + times_in more x
 unfolding times_in
 times_append [] more x = omega arith
 times_append (g ∷ row) more x = omega (arith, times_append row more x)
+
+-- of how many sets a shaft is: so many of the row have it
+pub times_counted : (row : List ℕ) (x : ℕ) → times_in row x ≡ count_by (λ set. has set x) row
+unfolding times_in
+times_counted row x = is_count_by (λ sets. times_in sets x) (λ set. has set x) refl (λ set sets. added (has set x) (times_in sets x)) row
+  where
+    added : (b : Bool) (n : ℕ) → one b + n ≡ cond b (1 + n) n
+    added true n = refl
+    added false n = omega arith
 
 -- one set more
 pub times_more : (row : List ℕ) (x i : ℕ) → i < length row → times_in (take (suc i) row) x ≡ times_in (take i row) x + one (has (get_or row i 0) x)

@@ -54,10 +54,8 @@ pub fn numbering_of(set: u16, m: u8) -> Numbering
     let shafts = m as usize;
     let mut names = [16u8; 16];
     let mut count: usize = 0;
-    let mut x: usize = 0;
-    while x < shafts {
+    for x in 0..shafts {
         count = number_next(&mut names, count, set, x);
-        x += 1;
     }
     Numbering {
         count: count as u8,
@@ -69,12 +67,10 @@ pub fn numbering_of(set: u16, m: u8) -> Numbering
 pub fn fits(set: u16, m: u8) -> bool
     ensures { Decides result (Fits m set) }
 {
-    let mut x = m as usize;
-    while x < 16 {
+    for x in m as usize..16 {
         if has(set, x) {
             return false;
         }
-        x += 1;
     }
     true
 }
@@ -84,13 +80,7 @@ pub fn times_in(row: &[u16], x: usize) -> usize
     requires { x < most_shafts }
     ensures { result ≡ times_in row.now x }
 {
-    let mut times: usize = 0;
-    let mut i: usize = 0;
-    while i < row.len() {
-        times += has(row[i], x) as usize;
-        i += 1;
-    }
-    times
+    row.iter().filter(|set| has(**set, x)).count()
 }
 
 // Whether a row of sets divides m shafts into groups.
@@ -99,14 +89,12 @@ pub fn is_division(groups: &[u16], m: u8) -> bool
     ensures { Decides result (Division m groups.now) }
 {
     let shafts = m as usize;
-    let mut x: usize = 0;
-    while x < 16 {
+    for x in 0..16 {
         let times = times_in(groups, x);
         let due = (x < shafts) as usize;
         if times != due {
             return false;
         }
-        x += 1;
     }
     true
 }

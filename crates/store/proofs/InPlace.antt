@@ -8,7 +8,7 @@ use native.Mathlib.Omega.{arith}
 use lib.Dec.{eqb}
 use lib.ListN.{length, get_or, get_or-eq_default}
 use Rattle.marks.specs.Cassettes.{numbers}
-use Rattle.marks.proofs.Faulted.{both_true}
+use Rattle.std.proofs.lemmas.Bool.{and_parts}
 use Rattle.lifts.specs.Lifting.{most_shafts, most_rows, slot_count, shown}
 use Rattle.depths.specs.Depths.{DepthsFit}
 use Rattle.depths.proofs.DepthLaws.{depth_past}
@@ -32,8 +32,8 @@ module _ (s : Store) where
     parts : (in_range s.m ≡ true) × (sized s ≡ true) × (all_below most_shafts (shaft_in_place s.m s.depths s.heights s.slots) ≡ true)
     unfolding in_place
     parts =
-        let p = both_true (sized s) _ e in
-        let q = both_true (in_range s.m) _ p.1 in
+        let p = and_parts (sized s) _ e in
+        let q = and_parts (in_range s.m) _ p.1 in
         (q.0, p.0, q.1)
 
     pub shafts_in_range : (0 < s.m) × (s.m ≤ most_shafts)
@@ -45,13 +45,13 @@ module _ (s : Store) where
     arrays_sized : (length s.depths ≡ most_shafts) × (length s.heights ≡ most_shafts) × (length s.slots ≡ slot_count)
     unfolding lengths
     arrays_sized =
-        let q = both_true lengths (eqb (length s.slots) slot_count) parts.1 in
-        let r = both_true (eqb (length s.depths) most_shafts) (eqb (length s.heights) most_shafts) q.0 in
+        let q = and_parts lengths (eqb (length s.slots) slot_count) parts.1 in
+        let r = and_parts (eqb (length s.depths) most_shafts) (eqb (length s.heights) most_shafts) q.0 in
         (eqb-true (length s.depths) most_shafts r.0, eqb-true (length s.heights) most_shafts r.1, eqb-true (length s.slots) slot_count q.1)
 
     each_in_place : (x : ℕ) → x < most_shafts → (depth_in_place s.m s.depths x ≡ true) × (rows_in_place s.m s.heights s.slots x ≡ true)
     each_in_place x i =
-        both_true (depth_in_place s.m s.depths x) (rows_in_place s.m s.heights s.slots x)
+        and_parts (depth_in_place s.m s.depths x) (rows_in_place s.m s.heights s.slots x)
         (all_true most_shafts (shaft_in_place s.m s.depths s.heights s.slots) parts.2 x i)
 
     depth_in_range : (x : ℕ) → x < s.m → (0 < depth s x) × (depth s x ≤ most_rows)

@@ -1,29 +1,28 @@
 -- How the functions that lift answer: the store they build is the definition's, and each answer has its number.
 use mathlib.Core.Bool.{true, false}
 use mathlib.Core.List.{List}
-use mathlib.Core.Path.{◌≡◌, refl, sym, ap, ◌∙◌, subst}
+use mathlib.Core.Path.{◌≡◌, refl, sym, ap, ◌∙◌}
 use Prim.Native.Nat.{ℕ, zero, suc, ◌+◌, ◌-◌, ◌*◌}
 use native.Mathlib.Omega.{arith}
 use lib.ListN.{get_or}
+use Rattle.std.specs.Prelude.{Result, Ok, Err}
 use Rattle.marks.proofs.Faulted.{first_skips, first_stays}
 use Rattle.lifts.specs.declared.Carried.{Carried}
-use Rattle.lifts.specs.declared.Judged.{Judged}
 use Rattle.lifts.specs.declared.Refusal.{Refusal}
 use Rattle.lifts.specs.Lifting.{refusal_by, heights_after, slots_after}
-use Rattle.lifts.specs.Numbers.{refusal_number, judged_number}
+use Rattle.lifts.specs.Numbers.{refusal_number}
 use Rattle.lifts.specs.Carried.{CanCarry}
 use Rattle.lifts.proofs.Moving.{shown_place}
-use Rattle.lifts.proofs.Numbered.{only_judged, refusal_one}
+use Rattle.lifts.proofs.Numbered.{only_error, only_refusal, refusal_one}
 use Rattle.depths.proofs.SlotThere.{slot_range}
 use Rattle.store.specs.declared.Store.{Store}
 use Rattle.store.specs.declared.Fault.{Fault}
-use Rattle.store.specs.declared.Answer.{Answer}
-use Rattle.store.specs.declared.Tried.{Tried}
+use Rattle.store.specs.declared.LiftFault.{LiftFault}
 use Rattle.store.specs.Slots.{depth, height, slot, top_of, has_slot, content_of}
 use Rattle.store.specs.Accept.{store_fault}
 use Rattle.store.specs.Lifts.{Allowed, lift_refusal, lifted, lift_number, when_none, after_lift}
-use Rattle.store.specs.Numbers.{fault_number, answer_number}
-use Rattle.store.specs.Promises.{Tells, TriedIs, LiftIs}
+use Rattle.store.specs.Numbers.{fault_number}
+use Rattle.store.specs.Promises.{Told, Tells, TriedIs, LiftIs}
 use Rattle.store.specs.Sound.{Shaped}
 use Rattle.store.proofs.Checks.{fault_one}
 use Rattle.store.proofs.Numbered.{only_answer}
@@ -70,35 +69,26 @@ module _ (s : Store) (a b : ℕ) where
   told_nothing : (k : ℕ) (t : Store) (c : Carried) → (k ≡ 0 → ⊥) → (c.cassette ≡ 0) × (c.row.0 ≡ 0) → Tells k s t a b c
   told_nothing k t c n e = record { refused = λ _. e; done = λ z. absurd (n z) }
 
-  told_done : (k : ℕ) (c : Carried) → Shaped s → Allowed s a b → k ≡ 0 → c.cassette ≡ top_of s a → c.row.0 ≡ suc (height s b)
-      → Tells k s (lifted s a b) a b c
-  told_done k c p q z e f =
+  told_done : (c : Carried) → Shaped s → Allowed s a b → c.cassette ≡ top_of s a → c.row.0 ≡ suc (height s b) → Told s (lifted s a b) a b c.cassette c.row.0
+  told_done c p q e f =
       let v = lift_moves s a b p q in
-      record {
-        refused = λ n. absurd (n z);
-        done = λ _. record { left = sym e; entered = ap (slot (lifted s a b) b) f ∙ v.placed ∙ sym e; top = f ∙ sym v.higher };
-      }
+      record { left = sym e; entered = ap (slot (lifted s a b) b) f ∙ v.placed ∙ sym e; top = f ∙ sym v.higher }
 
   -- a lift tried in place
-  pub tried_refused : (r : Refusal) (c : Carried) → refusal_number r ≡ lift_refusal s a b → (c.cassette ≡ 0) × (c.row.0 ≡ 0)
-      → TriedIs s a b s (record { judged = Judged.Refused r; carried = c })
-  tried_refused r c e z =
-      let n : lift_refusal s a b ≡ 0 → ⊥ = λ h. refusal_one r (e ∙ h) in
-      record {
-        judged = only_judged e;
-        store = when_some (lift_refusal s a b) (lifted s a b) s n;
-        tells = told_nothing (lift_refusal s a b) s c n z;
-      }
-
-  pub tried_made : (t : Store) (c : Carried) → Shaped s → lift_refusal s a b ≡ 0 → t ≡ lifted s a b → c.cassette ≡ top_of s a
-      → c.row.0 ≡ suc (height s b) → TriedIs s a b t (record { judged = Judged.Allowed; carried = c })
-  tried_made t c p z g e f = record {
-    judged = only_judged (sym z);
-    store = g ∙ ap (λ (k : ℕ). when_none k (lifted s a b) s) (sym z);
-    tells = rw g (told_done (lift_refusal s a b) c p (none_allowed s a b z) z e f);
+  pub tried_refused : (r : Refusal) → refusal_number r ≡ lift_refusal s a b → TriedIs s a b s (Err r)
+  tried_refused r e = record {
+    answer = only_error refusal_one (only_refusal e);
+    store = when_some (lift_refusal s a b) (lifted s a b) s λ h. refusal_one r (e ∙ h);
   }
 
-  module _ {t : Store} {r : Tried} (q : TriedIs s a b t r) where
+  pub tried_made : (t : Store) (c : Carried) → Shaped s → lift_refusal s a b ≡ 0 → t ≡ lifted s a b → c.cassette ≡ top_of s a
+      → c.row.0 ≡ suc (height s b) → TriedIs s a b t (Ok c)
+  tried_made t c p z g e f = record {
+    answer = (z, (rw g (told_done c p (none_allowed s a b z) e f), refusal_one));
+    store = g ∙ ap (λ (k : ℕ). when_none k (lifted s a b) s) (sym z);
+  }
+
+  module _ {t : Store} {r : Result Carried Refusal} (q : TriedIs s a b t r) where
     pub tried_stays : (lift_refusal s a b ≡ 0 → ⊥) → t ≡ s
     tried_stays n = q.store ∙ sym (when_some (lift_refusal s a b) (lifted s a b) s n)
 
@@ -106,12 +96,12 @@ module _ (s : Store) (a b : ℕ) where
     tried_lifts z = q.store ∙ ap (λ (k : ℕ). when_none k (lifted s a b) s) z
 
   -- a single lift: the store's own fault, or what was tried
-  pub store_refused : (f : Fault) (c : Carried) → store_fault s ≡ fault_number f → (c.cassette ≡ 0) × (c.row.0 ≡ 0)
-      → LiftIs s a b (record { store = s; carried = c; answer = Answer.StoreRefused f })
+  pub store_refused : (f : Fault) (c : Carried) → fault_number f ≡ store_fault s → (c.cassette ≡ 0) × (c.row.0 ≡ 0)
+      → LiftIs s a b (record { store = s; carried = c; answer = Err (LiftFault.StoreRefused f) })
   unfolding after_lift lift_number
   store_refused f c e z =
-      let n : store_fault s ≡ 0 → ⊥ = λ h. fault_one f (sym e ∙ h) in
-      let g : lift_number s a b ≡ fault_number f = first_stays (store_fault s) (lift_refusal s a b) n ∙ e in
+      let n : store_fault s ≡ 0 → ⊥ = λ h. fault_one f (e ∙ h) in
+      let g : lift_number s a b ≡ fault_number f = first_stays (store_fault s) (lift_refusal s a b) n ∙ sym e in
       let o : lift_number s a b ≡ 0 → ⊥ = λ h. fault_one f (sym g ∙ h) in
       record {
         answer = only_answer (sym g);
@@ -119,13 +109,24 @@ module _ (s : Store) (a b : ℕ) where
         tells = told_nothing (lift_number s a b) s c o z;
       }
 
-  pub lift_tried : (t : Store) (r : Tried) (v : Answer) → store_fault s ≡ 0 → TriedIs s a b t r → answer_number v ≡ judged_number r.judged
-      → LiftIs s a b (record { store = t; carried = r.carried; answer = v })
-  unfolding after_lift lift_number
-  lift_tried t r v e q h =
-      let g : lift_number s a b ≡ lift_refusal s a b = first_skips (store_fault s) (lift_refusal s a b) e in
-      record {
-        answer = only_answer (h ∙ q.judged.has ∙ sym g);
-        store = q.store ∙ ap (λ (k : ℕ). when_none k (lifted s a b) s) (sym g);
-        tells = subst (λ (k : ℕ). Tells k s t a b r.carried) (sym g) q.tells;
-      }
+  module _ (t : Store) (e : store_fault s ≡ 0) where
+    by_lift : lift_number s a b ≡ lift_refusal s a b
+    unfolding lift_number
+    by_lift = first_skips (store_fault s) (lift_refusal s a b) e
+
+    pub lift_made : (c : Carried) → TriedIs s a b t (Ok c) → LiftIs s a b (record { store = t; carried = c; answer = Ok tt })
+    unfolding after_lift
+    lift_made c q = record {
+      answer = only_answer (sym (by_lift ∙ q.answer.0));
+      store = q.store ∙ ap (λ (k : ℕ). when_none k (lifted s a b) s) (sym by_lift);
+      tells = record { refused = λ n. absurd (n (by_lift ∙ q.answer.0)); done = λ _. q.answer.1.0 };
+    }
+
+    pub lift_refused : (r : Refusal) (c : Carried) → TriedIs s a b t (Err r) → (c.cassette ≡ 0) × (c.row.0 ≡ 0)
+        → LiftIs s a b (record { store = t; carried = c; answer = Err (LiftFault.LiftRefused r) })
+    unfolding after_lift
+    lift_refused r c q z = record {
+      answer = only_answer (q.answer.has ∙ sym by_lift);
+      store = q.store ∙ ap (λ (k : ℕ). when_none k (lifted s a b) s) (sym by_lift);
+      tells = told_nothing (lift_number s a b) t c (λ h. refusal_one r (q.answer.has ∙ sym by_lift ∙ h)) z;
+    }

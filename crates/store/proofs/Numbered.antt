@@ -5,13 +5,15 @@ use Prim.Native.Nat.{ℕ}
 use lib.Dec.{eqb}
 use Rattle.lifts.specs.declared.Refusal.{Refusal}
 use Rattle.lifts.specs.declared.Refusal.TheVariants.{Shafts, Empty, Full}
-use Rattle.lifts.specs.Numbers.{Only, refusal_number}
-use Rattle.lifts.proofs.Numbered.{only_by}
+use Rattle.std.specs.Prelude.{Result}
+use Rattle.lifts.specs.Numbers.{Only, OnlyError, refusal_number}
+use Rattle.lifts.proofs.Numbered.{only_by, only_error, only_result, refusal_one}
 use Rattle.store.specs.declared.Fault.{Fault}
 use Rattle.store.specs.declared.Fault.TheVariants.{OutOfPlace, TooHigh, NoCassette, Twice}
-use Rattle.store.specs.declared.Verdict.{Verdict}
-use Rattle.store.specs.declared.Answer.{Answer}
-use Rattle.store.specs.Numbers.{fault_number, verdict_number, answer_number}
+use Rattle.store.specs.declared.LiftFault.{LiftFault}
+use Rattle.store.specs.declared.LiftFault.TheVariants.{StoreRefused, LiftRefused}
+use Rattle.store.specs.Numbers.{fault_number, verdict_number, lift_fault_number, answer_number}
+use Rattle.store.proofs.Checks.{fault_one}
 
 -- An answer told from its number: nothing refused, a fault of the store, or a refusal of the lift.
 module _ {A : Type 0} (none : A) (store : Fault → A) (lift : Refusal → A) where
@@ -41,17 +43,30 @@ module _ {A : Type 0} (none : A) (store : Fault → A) (lift : Refusal → A) wh
   told_lift Empty = refl
   told_lift Full = refl
 
-pub only_verdict : {k : ℕ} {v : Verdict} → verdict_number v ≡ k → Only verdict_number k v
-only_verdict = only_by (told Verdict.Accepted Verdict.Refused (λ r. Verdict.Accepted)) each
-  where
-    each : (v : Verdict) → told Verdict.Accepted Verdict.Refused (λ r. Verdict.Accepted) (verdict_number v) ≡ v
-    each Verdict.Accepted = told_none _ _ _
-    each (Verdict.Refused f) = told_store _ _ _ f
+fault_told : ℕ → Fault
+fault_told = told OutOfPlace (λ f. f) (λ r. OutOfPlace)
 
-pub only_answer : {k : ℕ} {a : Answer} → answer_number a ≡ k → Only answer_number k a
-only_answer = only_by (told Answer.Done Answer.StoreRefused Answer.LiftRefused) each
-  where
-    each : (a : Answer) → told Answer.Done Answer.StoreRefused Answer.LiftRefused (answer_number a) ≡ a
-    each Answer.Done = told_none _ _ _
-    each (Answer.StoreRefused f) = told_store _ _ _ f
-    each (Answer.LiftRefused r) = told_lift _ _ _ r
+fault_each : (f : Fault) → fault_told (fault_number f) ≡ f
+unfolding fault_told
+fault_each = told_store _ _ _
+
+pub only_fault : {k : ℕ} {f : Fault} → fault_number f ≡ k → OnlyError fault_number k f
+only_fault e = only_error fault_one (only_by fault_told fault_each e)
+
+pub only_verdict : {k : ℕ} {r : Result Unit Fault} → verdict_number r ≡ k → Only verdict_number k r
+only_verdict = only_result fault_told fault_each fault_one
+
+lift_fault_told : ℕ → LiftFault
+lift_fault_told = told (StoreRefused OutOfPlace) StoreRefused LiftRefused
+
+lift_fault_each : (f : LiftFault) → lift_fault_told (lift_fault_number f) ≡ f
+unfolding lift_fault_told
+lift_fault_each (StoreRefused f) = told_store _ _ _ f
+lift_fault_each (LiftRefused r) = told_lift _ _ _ r
+
+lift_fault_one : (f : LiftFault) → lift_fault_number f ≡ 0 → ⊥
+lift_fault_one (StoreRefused f) = fault_one f
+lift_fault_one (LiftRefused r) = refusal_one r
+
+pub only_answer : {k : ℕ} {r : Result Unit LiftFault} → answer_number r ≡ k → Only answer_number k r
+only_answer = only_result lift_fault_told lift_fault_each lift_fault_one

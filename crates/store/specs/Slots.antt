@@ -1,8 +1,8 @@
 -- The store, slot by slot (document 000, Definition 3.1; document 01, "The store"). A store value has m shafts, counted from 0; a
 -- depth (document 02, 7/13) and a height for each shaft; and a number for each slot, 16 slots for a shaft, from row 1 at the bottom.
-use Rattle.std.specs.Prelude.{Bool, cond, List, [], ◌++◌, ◌≡◌, ℕ, zero, suc, ◌-◌, length}
+use Rattle.std.specs.Prelude.{Bool, cond, List, [], ◌++◌, ◌≡◌, ℕ, zero, suc, ◌-◌, length, replicate}
 use Rattle.stacks.specs.Count.{sum, greatest}
-use Rattle.lifts.specs.Lifting.{height_in, shown}
+use Rattle.lifts.specs.Lifting.{most_shafts, slot_count, height_in, shown}
 use Rattle.depths.specs.Depths.{depth_by, space_for, slot_there}
 use Rattle.rows.specs.Rows.{rows_up, rows_down}
 use Rattle.store.specs.declared.Store.{Store}
@@ -10,6 +10,10 @@ use Rattle.store.specs.declared.Store.{Store}
 -- a store of its parts
 abbrev pub held : ℕ → List ℕ → List ℕ → List ℕ → Store
 held m depths heights slots = record { m = m; depths = depths; heights = heights; slots = slots }
+
+-- m shafts of these depths with no cassette
+abbrev pub empty_store : ℕ → List ℕ → Store
+empty_store m depths = held m depths (replicate most_shafts 0) (replicate slot_count 0)
 
 -- the depth of shaft x
 abbrev pub depth : Store → ℕ → ℕ

@@ -5,17 +5,35 @@
 pub mod accept;
 pub mod lift;
 
+ghost use Rattle.std.specs.Prelude.{◌≡◌};
+ghost use Rattle.store.specs.Numbers.{fault_of};
+ghost use Rattle.store.specs.Slots.{empty_store};
+
 use depths::Depths;
-use lifts::{Carried, Heights, Judged, Refusal, Slots};
-use marks::Words;
+use lifts::{Carried, Heights, Refusal, Slots};
+use marks::CassetteFault;
 
 // m shafts; the depth and the height of each shaft; and the slots, 16 for a shaft from row 1 upward, 0 for an empty one.
-#[derive(Clone, Copy)]
+#[derive(Clone, Copy, PartialEq, Eq)]
 pub struct Store {
     pub m: u8,
     pub depths: Depths,
     pub heights: Heights,
     pub slots: Slots,
+}
+
+impl Store {
+    // m shafts of these depths with no cassette.
+    pub fn empty(m: u8, depths: Depths) -> Store
+        ensures { result ≡ empty_store m depths }
+    {
+        Store {
+            m,
+            depths,
+            heights: [0; 16],
+            slots: [0; 256],
+        }
+    }
 }
 
 // Why a store given as a value is refused: 12, 3, 4, 5.
@@ -27,24 +45,20 @@ pub enum Fault {
     Twice,
 }
 
-// Whether a store given as a value is accepted.
-#[derive(Clone, Copy)]
-pub enum Verdict {
-    Accepted,
-    Refused(Fault),
+impl From<CassetteFault> for Fault {
+    ghost from_gives = { λ f r. r ≡ fault_of f };
+
+    fn from(f: CassetteFault) -> Fault {
+        match f {
+            CassetteFault::NoCassette => Fault::NoCassette,
+            CassetteFault::Twice => Fault::Twice,
+        }
+    }
 }
 
-// A checked store's verdict, and the marks of its cassettes but blanks, none where it is refused.
+// Why a single lift is refused: the store's own fault, or 11, 13, 14.
 #[derive(Clone, Copy)]
-pub struct Checked {
-    pub verdict: Verdict,
-    pub marks: Words,
-}
-
-// How a single lift is answered.
-#[derive(Clone, Copy)]
-pub enum Answer {
-    Done,
+pub enum LiftFault {
     StoreRefused(Fault),
     LiftRefused(Refusal),
 }
@@ -55,12 +69,5 @@ pub enum Answer {
 pub struct Lifted {
     pub store: Store,
     pub carried: Carried,
-    pub answer: Answer,
-}
-
-// Whether a lift tried in place was allowed, and then what it carried; else cassette 0 and row 0.
-#[derive(Clone, Copy)]
-pub struct Tried {
-    pub judged: Judged,
-    pub carried: Carried,
+    pub answer: Result<(), LiftFault>,
 }

@@ -1,4 +1,5 @@
 -- Making room for a round: what is ahead, and the turn, in which a third shaft lends its top.
+use Rattle.std.proofs.Common.{Option, Some, None}
 use mathlib.Core.List.{List}
 use mathlib.Core.Logic.{◌≢◌, Ne-symm}
 use mathlib.Core.Path.{◌≡◌, refl, ap, ◌∙◌}
@@ -18,6 +19,7 @@ use Rattle.lifts.specs.Carried.{CanCarry}
 use Rattle.moves.specs.Put.{PutIs}
 use Rattle.store.proofs.Lifting.{can_carry}
 use Rattle.moves.proofs.Carrying.{CarriedOn, carried_on, went_none, went_within}
+use Rattle.lifts.specs.declared.Shaft.{Shaft}
 use Rattle.rooms.specs.declared.Frame.{Frame}
 use Rattle.rooms.specs.declared.Spot.{Spot}
 use Rattle.ahead.specs.declared.Ahead.{Ahead}
@@ -27,7 +29,6 @@ use Rattle.ahead.specs.Ahead.{CanSee, AheadIs}
 use Rattle.rooms.proofs.Bottoms.{legal_allowed, shaped_fits}
 use Rattle.agreeing.specs.Agreeing.{wanted_in}
 use Rattle.finding.specs.Finding.{Stands}
-use Rattle.turns.specs.declared.Owed.{Owed}
 use Rattle.turns.specs.Turning.{passed_rows, OnTheWay, Ready, ThirdIs, LentIs, OwedIs, TurnedIs}
 use Rattle.turns.proofs.OneLift.{run_one}
 use Rattle.turns.proofs.Way.{passed_length, stands_over, over_stands, done_now, done_floor, tops_deep, fewer_passed, way_after}
@@ -37,7 +38,7 @@ pub ahead_few : (f : Frame) (heights : List ℕ) (a y b y' : ℕ) (n : Ahead) �
 ahead_few f heights a y b y' n k p = omega (arith, p.cover, p.in_way, k.within a, k.rows a, k.within b, k.rows b)
 
 -- what is passed after the top of c was lent
-pub record Lowered (f : Frame) (b c : ℕ) (done heights done' : List ℕ) (o : Owed) : Type 0 where
+pub record Lowered (f : Frame) (b c : ℕ) (done heights done' : List ℕ) (o : Option Shaft) : Type 0 where
   pub sized : length done' ≡ 16
   pub less : (x : ℕ) → height_in done' x ≤ height_in done x
   pub others : (x : ℕ) → x ≢ c → height_in done' x ≡ height_in done x
@@ -45,9 +46,9 @@ pub record Lowered (f : Frame) (b c : ℕ) (done heights done' : List ℕ) (o : 
   pub top : height_in done' c < height_in heights c
   pub owed : OwedIs f b done done' o
 
-lowered : (f : Frame) (b c : ℕ) (done heights done' : List ℕ) (o : Owed) → LentIs done heights c done' o → length done ≡ 16 → c < 16 → Usable f.m c → c ≢ b
+lowered : (f : Frame) (b c : ℕ) (done heights done' : List ℕ) (o : Option Shaft) → LentIs done heights c done' o → length done ≡ 16 → c < 16 → Usable f.m c → c ≢ b
     → 0 < height_in heights c → height_in heights c ≡ depth_in f c → Lowered f b c done heights done' o
-lowered f b c done heights done' Owed.Nothing l size i u n some full =
+lowered f b c done heights done' None l size i u n some full =
     let e : (x : ℕ) → height_in done' x ≡ height_in done x = λ x. ap (λ (d : List ℕ). height_in d x) l.0 in
     record {
       sized = ap length l.0 ∙ size;
@@ -57,7 +58,7 @@ lowered f b c done heights done' Owed.Nothing l size i u n some full =
       top = omega (arith, e c, l.1);
       owed = e;
     }
-lowered f b c done heights done' (Owed.Top z) l size i u n some full =
+lowered f b c done heights done' (Some z) l size i u n some full =
     let e : (x : ℕ) → height_in done' x ≡ height_in (set done c (height_in done c - 1)) x = λ x. ap (λ (d : List ℕ). height_in d x) l.1.0 in
     let here : height_in done' c ≡ height_in done c - 1 = e c ∙ get_or-set_same done c (height_in done c - 1) 0 (omega arith) in
     let there : (x : ℕ) → x ≢ c → height_in done' x ≡ height_in done x = λ x m. e x ∙ get_or-set_other done c x (height_in done c - 1) 0 m in
@@ -94,7 +95,7 @@ module _ {f : Frame} {tops goal done heights slots : List ℕ} {at to : Spot} (r
   stay : (count : ℕ) (came : List ℕ)
       → (0 < (height_in heights at.shaft.0 - at.row.0) + (suc (height_in heights to.shaft.0) - to.row.0)
       → depth_in f at.shaft.0 + depth_in f to.shaft.0 < f.e + (height_in heights at.shaft.0 + height_in heights to.shaft.0))
-      → TurnedIs f tops goal done heights slots at to count came done heights slots (record { owed = Owed.Nothing; count = count }) came
+      → TurnedIs f tops goal done heights slots at to count came done heights slots (record { owed = None; count = count }) came
   stay count came h = record {
     went = went_within (omega arith) (went_none (store_of f heights slots) count came r.way.held.shaped);
     ready = r;
@@ -105,10 +106,10 @@ module _ {f : Frame} {tops goal done heights slots : List ℕ} {at to : Spot} (r
   }
 
   module _ (n : Ahead) (v : AheadIs f heights at.shaft.0 at.row.0 to.shaft.0 to.row.0 n) (count : ℕ) (came : List ℕ) where
-    pub has_room : 0 < n.outside → TurnedIs f tops goal done heights slots at to count came done heights slots (record { owed = Owed.Nothing; count = count }) came
+    pub has_room : 0 < n.outside → TurnedIs f tops goal done heights slots at to count came done heights slots (record { owed = None; count = count }) came
     has_room h = stay count came (λ _. omega (arith, v.outside))
 
-    pub nothing_there : n.cover + n.load ≡ 0 → TurnedIs f tops goal done heights slots at to count came done heights slots (record { owed = Owed.Nothing; count = count }) came
+    pub nothing_there : n.cover + n.load ≡ 0 → TurnedIs f tops goal done heights slots at to count came done heights slots (record { owed = None; count = count }) came
     nothing_there h = stay count came (λ p. absurd (omega (arith, p, v.cover, v.in_way)))
 
     -- the turn, with the top of c
@@ -126,7 +127,7 @@ module _ {f : Frame} {tops goal done heights slots : List ℕ} {at to : Spot} (r
       pub lend_ready : ((c < 16) × (0 < height_in heights c)) × (height_in done c ≤ height_in heights c)
       lend_ready = ((omega (arith, t.usable, r.way.held.shaped.shafts), omega (arith, full, r.way.some_row c t.usable)), done_now r.way c)
 
-      module _ (done' : List ℕ) (o : Owed) (l : LentIs done heights c done' o) where
+      module _ (done' : List ℕ) (o : Option Shaft) (l : LentIs done heights c done' o) where
         low : Lowered f to.shaft.0 c done heights done' o
         low = lowered f to.shaft.0 c done heights done' o l r.way.sized lend_ready.0.0 t.usable t.not_second lend_ready.0.1 full
 

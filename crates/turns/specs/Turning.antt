@@ -1,18 +1,18 @@
 -- What a round asks for, and what making room in it brings about.
-use Rattle.std.specs.Prelude.{List, ◌≡◌, ℕ, suc, ◌+◌, ◌-◌, ◌≤◌, ◌<◌, length, set}
+use Rattle.std.specs.Prelude.{List, Option, Some, None, ◌≡◌, ℕ, suc, ◌+◌, ◌-◌, ◌≤◌, ◌<◌, length, set}
 use Rattle.stacks.specs.Run.{Stacks, Usable}
 use Rattle.stacks.specs.Placing.{Halfway}
 use Rattle.store.specs.Slots.{stack}
 use Rattle.rows.specs.Rows.{rows_down}
 use Rattle.store.specs.Sound.{Shaped}
 use Rattle.moves.specs.Went.{Went}
+use Rattle.lifts.specs.declared.Shaft.{Shaft}
 use Rattle.rooms.specs.declared.Frame.{Frame}
 use Rattle.rooms.specs.declared.Spot.{Spot}
 use Rattle.lifts.specs.Lifting.{height_in}
 use Rattle.rooms.specs.Frames.{store_of, depth_in, Held}
 use Rattle.agreeing.specs.Agreeing.{wanted_in}
 use Rattle.finding.specs.Finding.{Stands}
-use Rattle.turns.specs.declared.Owed.{Owed}
 use Rattle.turns.specs.declared.Turned.{Turned}
 
 -- the rows of the goal that are passed
@@ -51,14 +51,14 @@ pub record ThirdIs (f : Frame) (a b c : ℕ) : Type 0 where
   pub not_second : c ≡ b → ⊥
 
 -- nothing is owed where the top is not passed; else it is passed no longer
-abbrev pub LentIs : List ℕ → List ℕ → ℕ → List ℕ → Owed → Type 0
-LentIs done heights c done' Owed.Nothing = (done' ≡ done) × (height_in done c < height_in heights c)
-LentIs done heights c done' (Owed.Top x) = (x.0 ≡ c) × ((done' ≡ set done c (height_in done c - 1)) × (height_in done c ≡ height_in heights c))
+abbrev pub LentIs : List ℕ → List ℕ → ℕ → List ℕ → Option Shaft → Type 0
+LentIs done heights c done' None = (done' ≡ done) × (height_in done c < height_in heights c)
+LentIs done heights c done' (Some x) = (x.0 ≡ c) × ((done' ≡ set done c (height_in done c - 1)) × (height_in done c ≡ height_in heights c))
 
 -- what is passed then: all that was, or all but the top row of a full shaft other than b
-abbrev pub OwedIs : Frame → ℕ → List ℕ → List ℕ → Owed → Type 0
-OwedIs f b done done' Owed.Nothing = (x : ℕ) → height_in done' x ≡ height_in done x
-OwedIs f b done done' (Owed.Top c) =
+abbrev pub OwedIs : Frame → ℕ → List ℕ → List ℕ → Option Shaft → Type 0
+OwedIs f b done done' None = (x : ℕ) → height_in done' x ≡ height_in done x
+OwedIs f b done done' (Some c) =
     Usable f.m c.0
     × ((c.0 ≡ b → ⊥)
     × ((suc (height_in done' c.0) ≡ depth_in f c.0)

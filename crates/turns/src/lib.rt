@@ -6,21 +6,15 @@ ghost use Rattle.lifts.specs.Lifting.{height_in};
 ghost use Rattle.turns.specs.Turning.{OtherIs, ThirdIs, LentIs, Ready, TurnedIs};
 
 use ahead::look_ahead;
-use lifts::{Heights, Shaft, Slots};
-use moves::{Hints, put_lift};
+use lifts::{Heights, Shaft};
+use moves::Work;
 use rooms::{Frame, Spot};
+use store::Store;
 
-// A shaft whose top row was passed and lent, and is to be filled again.
-#[derive(Clone, Copy)]
-pub enum Owed {
-    Nothing,
-    Top(Shaft),
-}
-
-// What is owed, and the end of the list.
+// The shaft, if any, whose top row was passed and lent, and is to be filled again; and the end of the list.
 #[derive(Clone, Copy)]
 pub struct Turned {
-    pub owed: Owed,
+    pub owed: Option<Shaft>,
     pub count: usize,
 }
 
@@ -28,88 +22,64 @@ pub struct Turned {
 fn other(a: Shaft, b: Shaft) -> Shaft
     ensures { OtherIs a.0 b.0 result.0 }
 {
-    if a.0 == 0 {
-        if b.0 == 1 {
-            return Shaft(2);
-        }
+    if a.0 != 0 && b.0 != 0 {
+        return Shaft(0);
+    }
+    if a.0 != 1 && b.0 != 1 {
         return Shaft(1);
     }
-    if b.0 == 0 {
-        if a.0 == 1 {
-            return Shaft(2);
-        }
-        return Shaft(1);
-    }
-    Shaft(0)
+    Shaft(2)
 }
 
 // A shaft other than a and b. It looks for one whose top is not passed; no promise rests on that.
-fn third(f: Frame, done: Heights, heights: Heights, a: Shaft, b: Shaft) -> Shaft
+fn third(f: Frame, done: &Heights, heights: &Heights, a: Shaft, b: Shaft) -> Shaft
     requires { (3 ≤ f.m) × (f.m ≤ 16) }
     ensures { ThirdIs f a.0 b.0 result.0 }
 {
-    let mut x: u8 = 0;
-    while x < f.m {
+    for x in 0..f.m {
         let i = x as usize;
-        if done[i] < heights[i] {
-            if x != a.0 {
-                if x != b.0 {
-                    return Shaft(x);
-                }
-            }
+        if done[i] < heights[i] && x != a.0 && x != b.0 {
+            return Shaft(x);
         }
-        x += 1;
     }
     other(a, b)
 }
 
 // The top row of a shaft given up, if it is passed.
-fn lend(done: &mut Heights, heights: Heights, c: Shaft) -> Owed
-    requires c_bound { (c.0 < 16) × (0 < height_in heights c.0) }
-    requires c_bound_2 { height_in done.old c.0 ≤ height_in heights c.0 }
-    ensures { LentIs done.old heights c.0 done.new result }
+fn lend(done: &mut Heights, heights: &Heights, c: Shaft) -> Option<Shaft>
+    requires c_bound { (c.0 < 16) × (0 < height_in heights.now c.0) }
+    requires c_bound_2 { height_in done.old c.0 ≤ height_in heights.now c.0 }
+    ensures { LentIs done.old heights.now c.0 done.new result }
 {
     let i = c.0 as usize;
     if done[i] < heights[i] {
-        return Owed::Nothing;
+        return None;
     }
     done[i] -= 1;
-    Owed::Top(c)
+    Some(c)
 }
 
 // A slot outside the two shafts, if anything is in the way and there is none.
 pub fn make_room(
     f: Frame,
-    tops: Heights,
-    goal: &Slots,
+    goal: &Store,
     done: &mut Heights,
-    heights: &mut Heights,
-    slots: &mut Slots,
-    hints: &mut Hints,
+    work: &mut Work,
     at: Spot,
     to: Spot,
     count: usize,
     out: &mut [u8],
 ) -> Turned
-    requires ready { Ready f tops goal.now done.old heights.old slots.old at to }
+    requires ready { Ready f goal.now.heights goal.now.slots done.old work.old.heights work.old.slots at to }
     requires count_in_bounds { count < length out.old }
-    ensures { TurnedIs f tops goal.now done.old heights.old slots.old at to count out.old done.new heights.new slots.new result out.new }
+    ensures { TurnedIs f goal.now.heights goal.now.slots done.old work.old.heights work.old.slots at to count out.old done.new work.new.heights work.new.slots result out.new }
 {
-    let view = look_ahead(f, heights, at, to);
-    if 0 < view.outside {
-        return Turned {
-            owed: Owed::Nothing,
-            count,
-        };
+    let view = look_ahead(f, &work.heights, at, to);
+    if 0 < view.outside || view.cover + view.load == 0 {
+        return Turned { owed: None, count };
     }
-    if view.cover + view.load == 0 {
-        return Turned {
-            owed: Owed::Nothing,
-            count,
-        };
-    }
-    let c = third(f, *done, *heights, at.shaft, to.shaft);
-    let owed = lend(done, *heights, c);
-    let end = put_lift(heights, slots, hints, c, to.shaft, count, out);
+    let c = third(f, done, &work.heights, at.shaft, to.shaft);
+    let owed = lend(done, &work.heights, c);
+    let end = work.put_lift(c, to.shaft, count, out);
     Turned { owed, count: end }
 }

@@ -11,8 +11,9 @@ use Rattle.store.specs.Accept.{Accepted}
 use Rattle.store.proofs.Acceptance.{accepted_shaped}
 use Rattle.store.proofs.Played.{leads_frame}
 use Rattle.reach.proofs.Lasting.{leads_occurrences, row_counted, none_counted}
-use Rattle.uncovering.specs.declared.Uncovering.{Uncovering}
-use Rattle.uncovering.specs.declared.Uncovering.TheVariants.{After, Absent, Buried}
+use Rattle.std.specs.Prelude.{Result, Ok, Err}
+use Rattle.uncovering.specs.declared.Hidden.{Hidden}
+use Rattle.uncovering.specs.declared.Hidden.TheVariants.{Absent, Buried}
 use Rattle.uncovering.specs.Promises.{UncoveringIs}
 use Rattle.uncovering.specs.Uncovering.{Stands, Uncovered, Uncovers, Fewest}
 
@@ -44,13 +45,13 @@ module _ (s : Store) (p : Accepted s) (c : ℕ) where
   fewest_one : {j k : ℕ} → Fewest s c j → Fewest s c k → j ≡ k
   fewest_one f g = omega (arith, f.least g.list g.uncovers, f.count, g.least f.list f.uncovers, g.count)
 
-  pub uncovering_exact : (a b : Uncovering) → UncoveringIs s c a → UncoveringIs s c b → a ≡ b
-  uncovering_exact (After j) (After k) f g = ap After (fewest_one f g)
-  uncovering_exact (After j) Absent f n = absurd (absent_covered n f.uncovers)
-  uncovering_exact (After j) Buried f n = absurd (n.1 _ f.uncovers)
-  uncovering_exact Absent (After k) n f = absurd (absent_covered n f.uncovers)
-  uncovering_exact Absent Absent n f = refl
-  uncovering_exact Absent Buried n f = absurd (n f.0)
-  uncovering_exact Buried (After k) n f = absurd (n.1 _ f.uncovers)
-  uncovering_exact Buried Absent f n = absurd (n f.0)
-  uncovering_exact Buried Buried f g = refl
+  pub uncovering_exact : (a b : Result ℕ Hidden) → UncoveringIs s c a → UncoveringIs s c b → a ≡ b
+  uncovering_exact (Ok j) (Ok k) f g = ap Ok (fewest_one f g)
+  uncovering_exact (Ok j) (Err Absent) f n = absurd (absent_covered n f.uncovers)
+  uncovering_exact (Ok j) (Err Buried) f n = absurd (n.1 _ f.uncovers)
+  uncovering_exact (Err Absent) (Ok k) n f = absurd (absent_covered n f.uncovers)
+  uncovering_exact (Err Absent) (Err Absent) n f = refl
+  uncovering_exact (Err Absent) (Err Buried) n f = absurd (n f.0)
+  uncovering_exact (Err Buried) (Ok k) n f = absurd (n.1 _ f.uncovers)
+  uncovering_exact (Err Buried) (Err Absent) f n = absurd (n f.0)
+  uncovering_exact (Err Buried) (Err Buried) f g = refl

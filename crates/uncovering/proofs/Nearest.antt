@@ -5,8 +5,9 @@ use native.Mathlib.Decide.{dec_lt}
 use native.Mathlib.Omega.{arith}
 use Rattle.store.specs.declared.Store.{Store}
 use Rattle.store.specs.Slots.{depth, height, slot}
-use Rattle.uncovering.specs.declared.Uncovering.{Uncovering}
-use Rattle.uncovering.specs.declared.Uncovering.TheVariants.{After, Absent, Buried}
+use Rattle.std.specs.Prelude.{Result, Ok, Err}
+use Rattle.uncovering.specs.declared.Hidden.{Hidden}
+use Rattle.uncovering.specs.declared.Hidden.TheVariants.{Absent, Buried}
 use Rattle.uncovering.specs.Nearest.{Place, HighEnough, Under, Nearest, NearestIs, nearer_of}
 use Rattle.uncovering.specs.Promises.{Ready, TopRowIs}
 use Rattle.uncovering.specs.Uncovering.{Stands}
@@ -23,17 +24,17 @@ module _ (s : Store) (c x rows r : ℕ) (b : x < s.m) (g : rows ≡ height s x) 
     | no h ↦ omega arith
   ]
 
-  pub no_place : r ≡ 0 → NearestIs x (x + 1) s c Absent
+  pub no_place : r ≡ 0 → NearestIs x (x + 1) s c (Err Absent)
   no_place z w = omega (arith, under_top w, w.stands.from_one)
 
   module _ (n : r ≡ 0 → ⊥) (e : ℕ) (l : Ready s e) (floor : ℕ) (f : floor ≡ depth s x - e) where
     abbrev top : Place x (x + 1) s c
     top = record { stands = record { shaft = x; row = r; below = b; from_one = omega arith; held = omega (arith, t.within); shows = t.shows (omega arith) }; from = omega arith; to = omega arith }
 
-    pub too_low : r < floor → NearestIs x (x + 1) s c Buried
+    pub too_low : r < floor → NearestIs x (x + 1) s c (Err Buried)
     too_low h = (top, λ w i. omega (arith, under_top w, ap (depth s) (same_shaft w), l.empty))
 
-    pub nearest_top : floor ≤ r → NearestIs x (x + 1) s c (After (rows - r))
+    pub nearest_top : floor ≤ r → NearestIs x (x + 1) s c (Ok (rows - r))
     nearest_top h = record {
       place = top;
       high = omega (arith, l.empty);
@@ -65,16 +66,16 @@ module _ (s : Store) (c a b d : ℕ) (h : a ≤ b) (i : b ≤ d) where
   none_high = every (λ w. HighEnough w → ⊥)
 
   -- the nearer answer is right for all
-  pub nearer_of_both : (p q : Uncovering) → NearestIs a b s c p → NearestIs b d s c q → NearestIs a d s c (nearer_of p q)
-  nearer_of_both Absent Absent p q = every (λ w. ⊥) p q
-  nearer_of_both Absent Buried p q = (among h (omega arith) q.0, none_high (λ w i. p w) q.1)
-  nearer_of_both Absent (After k) p q = nearest h (omega arith) q refl (λ w i. absurd (p w)) q.least
-  nearer_of_both Buried Absent p q = (among (omega arith) i p.0, none_high p.1 (λ w i. q w))
-  nearer_of_both Buried Buried p q = (among (omega arith) i p.0, none_high p.1 q.1)
-  nearer_of_both Buried (After k) p q = nearest h (omega arith) q refl (λ w i. absurd (p.1 w i)) q.least
-  nearer_of_both (After j) Absent p q = nearest (omega arith) i p refl p.least (λ w i. absurd (q w))
-  nearer_of_both (After j) Buried p q = nearest (omega arith) i p refl p.least (λ w i. absurd (q.1 w i))
-  nearer_of_both (After j) (After k) p q = elim (dec_lt j k) [
+  pub nearer_of_both : (p q : Result ℕ Hidden) → NearestIs a b s c p → NearestIs b d s c q → NearestIs a d s c (nearer_of p q)
+  nearer_of_both (Err Absent) (Err Absent) p q = every (λ w. ⊥) p q
+  nearer_of_both (Err Absent) (Err Buried) p q = (among h (omega arith) q.0, none_high (λ w i. p w) q.1)
+  nearer_of_both (Err Absent) (Ok k) p q = nearest h (omega arith) q refl (λ w i. absurd (p w)) q.least
+  nearer_of_both (Err Buried) (Err Absent) p q = (among (omega arith) i p.0, none_high p.1 (λ w i. q w))
+  nearer_of_both (Err Buried) (Err Buried) p q = (among (omega arith) i p.0, none_high p.1 q.1)
+  nearer_of_both (Err Buried) (Ok k) p q = nearest h (omega arith) q refl (λ w i. absurd (p.1 w i)) q.least
+  nearer_of_both (Ok j) (Err Absent) p q = nearest (omega arith) i p refl p.least (λ w i. absurd (q w))
+  nearer_of_both (Ok j) (Err Buried) p q = nearest (omega arith) i p refl p.least (λ w i. absurd (q.1 w i))
+  nearer_of_both (Ok j) (Ok k) p q = elim (dec_lt j k) [
     | yes l ↦ nearest (omega arith) i p (omega arith) (λ w i. omega (arith, p.least w i)) (λ w i. omega (arith, q.least w i))
     | no l ↦ nearest h (omega arith) q (omega arith) (λ w i. omega (arith, p.least w i)) (λ w i. omega (arith, q.least w i))
   ]

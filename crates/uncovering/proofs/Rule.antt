@@ -6,8 +6,9 @@ use native.Mathlib.Omega.{arith}
 use lib.ListN.{length}
 use Rattle.store.specs.declared.Store.{Store}
 use Rattle.store.specs.Sound.{Shaped}
-use Rattle.uncovering.specs.declared.Uncovering.{Uncovering}
-use Rattle.uncovering.specs.declared.Uncovering.TheVariants.{After, Absent, Buried}
+use Rattle.std.specs.Prelude.{Result, Ok, Err}
+use Rattle.uncovering.specs.declared.Hidden.{Hidden}
+use Rattle.uncovering.specs.declared.Hidden.TheVariants.{Absent, Buried}
 use Rattle.uncovering.specs.Nearest.{Place, HighEnough, Nearest, NearestIs}
 use Rattle.uncovering.specs.Promises.{UncoveringIs}
 use Rattle.uncovering.specs.Uncovering.{Uncovers, Fewest}
@@ -25,7 +26,7 @@ module _ (s : Store) (p : Shaped s) (c : ℕ) where
   never_uncovered n list u = omega (arith, none_sooner p u.leads u.uncovered (suc (length list)) (λ w i. absurd (n w i)))
 
   -- what an answer says of the places of the store, it says of the lists
-  pub by_places : (a : Uncovering) → NearestIs 0 s.m s c a → UncoveringIs s c a
-  by_places (After k) n = fewest n
-  by_places Absent n = λ w. n (record { stands = w; from = omega arith; to = w.below })
-  by_places Buried n = (n.0.stands, never_uncovered n.1)
+  pub by_places : (a : Result ℕ Hidden) → NearestIs 0 s.m s c a → UncoveringIs s c a
+  by_places (Ok k) n = fewest n
+  by_places (Err Absent) n = λ w. n (record { stands = w; from = omega arith; to = w.below })
+  by_places (Err Buried) n = (n.0.stands, never_uncovered n.1)

@@ -6,7 +6,6 @@ use Rattle.store.specs.declared.Store.{Store}
 use Rattle.store.specs.Lists.{Reachable}
 use Rattle.store.proofs.Acceptance.{accepted_shaped}
 use Rattle.reach.proofs.RuleTests.{by_rule}
-use Rattle.pairs.proofs.Answers.{comparable_by, count_by}
 use Rattle.apart.proofs.ApartLaws.{part_none, part_refused}
 use Rattle.apart.proofs.part_reachable.Goals as goal
 
@@ -20,16 +19,15 @@ returns-then-a-eq0 c =
 pub part_of-b-requires : goal.part_of-b-requires
 part_of-b-requires c = (accepted_shaped _ c.requires.goal).shafts
 
-pub returns-in-Refused : goal.returns-in-Refused
-returns-in-Refused c =
-    fails (part_refused c.args.some c.args.start c.args.goal c.requires c.part_of-a.ensures c.part_of-b.ensures c.if-a-eq0.false c.compare-compared.ensures c.in-Refused.is)
+pub returns-in-Err : goal.returns-in-Err
+returns-in-Err c =
+    fails (part_refused c.args.some c.args.start c.args.goal c.requires _ c.part_of-a.ensures c.part_of-b.ensures c.if-a-eq0.false c.in-Err.ensures)
 
 pub rule_holds-requires : goal.rule_holds-requires
-rule_holds-requires c =
-    record { comparable = comparable_by _ _ _ c.compare-compared.ensures c.in_default.is; n_value = count_by _ _ _ c.compare-compared.ensures c.in_default.is }
+rule_holds-requires c = record { comparable = c.in-Ok.ensures.0; n_value = c.in-Ok.ensures.1 }
 
-pub returns : goal.returns
-returns c =
-    let p = comparable_by _ _ _ c.compare-compared.ensures c.in_default.is in
+pub returns-in-Ok : goal.returns-in-Ok
+returns-in-Ok c =
+    let p = c.in-Ok.ensures.0 in
     let d = by_rule _ _ p c.rule_holds.ensures in
     subst₂ (λ (u v : Store). Decides c.rule_holds.result (Reachable u v)) c.part_of-a.ensures c.part_of-b.ensures d

@@ -3,8 +3,8 @@ use mathlib.Core.Path.{◌≡◌, ap, ◌∙◌}
 use native.Mathlib.Omega.{arith}
 use lib.ListN.{drop}
 use lib.Pow.{pow_mono}
+use Rattle.std.specs.Prelude.{Some}
 use Rattle.bits.specs.Fields.{field, bits_of}
-use Rattle.bits.specs.declared.Field.TheVariants.{Value}
 use Rattle.bits.proofs.Cuts.{field_in_bytes}
 use Rattle.bits.proofs.Places.{field_missing, field_there}
 use Rattle.bits.proofs.Widths.{field_lt}
@@ -20,4 +20,4 @@ pub overflow_cast-result : goal.overflow_cast-result
 overflow_cast-result c = let a = c.args in omega (arith, value c, field_lt (drop a.at (bits_of a.s.now)) a.w, pow_mono c.requires.1)
 
 pub returns : goal.returns
-returns c = let a = c.args in ap Value (value c) ∙ field_there a.s.now a.at a.w (omega arith)
+returns c = let a = c.args in ap Some (value c) ∙ field_there a.s.now a.at a.w (omega arith)

@@ -18,27 +18,26 @@ few s x a = let p = accepted_shaped s a in omega (arith, p.heights x, p.rows x)
 
 pub loop-x-init : goal.loop-x-init
 unfolding count cassettes_below
-loop-x-init c = (omega arith, refl, omega arith)
+loop-x-init c = (refl, omega arith)
 
 pub height_at-requires : goal.height_at-requires
 height_at-requires c =
-    omega (arith, c.loop-x-test.true, (accepted_shaped _ c.requires).shafts)
+    omega (arith, (accepted_shaped _ c.requires).shafts)
 
 pub blanks_in-n-requires : goal.blanks_in-n-requires
 blanks_in-n-requires c =
-    (omega (arith, c.loop-x-test.true, (accepted_shaped _ c.requires).shafts), omega (arith, c.height_at.ensures, few c.args.s c.loop-x.x c.requires))
+    (omega (arith, (accepted_shaped _ c.requires).shafts), omega (arith, c.height_at.ensures, few c.args.s c.loop-x.x c.requires))
 
 pub overflow_add-n : goal.overflow_add-n
 overflow_add-n c =
-    omega (arith, c.blanks_in-n.ensures.most, c.height_at.ensures, few c.args.s c.loop-x.x c.requires, c.loop-x.invariant.2, c.loop-x-test.true, (accepted_shaped _ c.requires).shafts)
+    omega (arith, c.blanks_in-n.ensures.most, c.height_at.ensures, few c.args.s c.loop-x.x c.requires, c.loop-x.invariant.1, (accepted_shaped _ c.requires).shafts)
 
 pub loop-x-preserved : goal.loop-x-preserved
 loop-x-preserved c = (
-  omega arith,
-  rw add-one (omega (arith, c.loop-x.invariant.1, shaft_more c.args.s c.loop-x.x c.height_at.ensures, c.blanks_in-n.ensures.blanks)),
-  omega (arith, c.blanks_in-n.ensures.most, c.height_at.ensures, few c.args.s c.loop-x.x c.requires, c.loop-x.invariant.2),
+  rw add-one (omega (arith, c.loop-x.invariant.0, shaft_more c.args.s c.loop-x.x c.height_at.ensures, c.blanks_in-n.ensures.blanks)),
+  omega (arith, c.blanks_in-n.ensures.most, c.height_at.ensures, few c.args.s c.loop-x.x c.requires, c.loop-x.invariant.1),
 )
 
 pub returns : goal.returns
 unfolding cassettes
-returns c = let all : c.loop-x.x ≡ c.args.s.m = omega arith in rw all at c.loop-x.invariant.1
+returns c = let all : c.loop-x.x ≡ c.args.s.m = omega arith in rw all at c.loop-x.invariant.0

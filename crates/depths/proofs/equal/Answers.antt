@@ -1,37 +1,33 @@
--- `equal` meets its contract. The invariant: the shafts passed have depth h, and the others none so far.
-use mathlib.Core.Path.{refl, ◌∙◌}
-use native.Mathlib.Decide.{ℕ_discrete}
+-- `equal` meets its contract: the first m depths are filled with h, and the others stay none.
+use mathlib.Core.List.{◌++◌}
+use mathlib.Core.Path.{◌≡◌, ◌∙◌}
+use Prim.Native.Nat.{ℕ, ◌+◌, ◌-◌, ◌≤◌, ◌<◌}
+use borrow.Author.Rules.{rules}
 use native.Mathlib.Omega.{arith}
-use lib.ListN.{length-set}
-use lib.Seq.{get_or-set_same, get_or-set_other}
+use lib.ListN.{get_or, replicate, drop, get_or-append, length-replicate}
+use Rattle.std.proofs.lemmas.List.{get_or-replicate, get_or-append_right, get_or-drop}
 use Rattle.marks.proofs.MarkLaws.{zeros}
 use Rattle.lifts.specs.Lifting.{most_shafts}
 use Rattle.depths.specs.Depths.{depth_by}
 use Rattle.depths.proofs.equal.Goals as goal
 
-pub loop-x-init : goal.loop-x-init
-unfolding depth_by
-loop-x-init c = (omega arith, refl, λ y i. absurd (omega arith), λ y i. zeros most_shafts y)
+-- k numbers h, and then those of n zeros that are left
+module _ (n k h y : ℕ) where
+  filled : y < k → get_or (replicate k h ++ drop k (replicate n 0)) y 0 ≡ h
+  filled i = get_or-append (replicate k h) (drop k (replicate n 0)) 0 y (omega (arith, length-replicate {A = ℕ} k h)) ∙ get_or-replicate k y h 0 i
 
-pub loop-x-preserved : goal.loop-x-preserved
-unfolding depth_by
-loop-x-preserved c =
-    let l = c.loop-x in
-    let h = c.args.h in (
-      omega (arith, c.loop-x-test.true),
-      length-set l.depths l.x h ∙ l.invariant.1,
-      λ y i. elim (ℕ_discrete y l.x) [
-        | yes q ↦ rw q (get_or-set_same l.depths l.x h 0 (omega (arith, c.loop-x-test.true, c.shafts_of-some.ensures, l.invariant.1)))
-        | no q ↦ get_or-set_other l.depths l.x y h 0 (omega arith) ∙ l.invariant.2 y (omega arith)
-      ],
-      λ y i. get_or-set_other l.depths l.x y h 0 (omega arith) ∙ l.invariant.3 y (omega arith),
-    )
+  unfilled : k ≤ y → get_or (replicate k h ++ drop k (replicate n 0)) y 0 ≡ 0
+  unfilled i =
+      get_or-append_right (replicate k h) (drop k (replicate n 0)) k y 0 (length-replicate k h) i
+      ∙ get_or-drop k (replicate n 0) (y - k) 0
+      ∙ zeros n (k + (y - k))
 
 pub returns : goal.returns
+unfolding depth_by
 returns c =
-    let l = c.loop-x in
-    let k = c.shafts_of-some.ensures in
-    record {
-      below = λ x i j. l.invariant.2 x (omega (arith, c.loop-x-test.false));
-      beyond = λ x i. l.invariant.3 x (omega (arith, l.invariant.0));
-    }
+    let after = c.fill.ensures.after (λ y e. e) in
+    let e : c.fill.new.self ≡ replicate c.shafts_of.result c.args.h = search rules in
+    rw e (record {
+      below = λ x i j. filled most_shafts c.shafts_of.result c.args.h x (omega (arith, c.shafts_of.ensures));
+      beyond = λ x i. unfilled most_shafts c.shafts_of.result c.args.h x (omega (arith, c.shafts_of.ensures));
+    })

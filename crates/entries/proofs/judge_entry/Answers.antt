@@ -1,41 +1,29 @@
 -- `judge_entry` meets its contract: a lift is judged by the depth and the heights, and a sighting is not.
-use borrow.Author.Tests.{ne_eqb}
-use mathlib.Core.List.{List}
-use mathlib.Core.Path.{◌≡◌, sym, ap, ◌∙◌}
+use mathlib.Core.Path.{◌≡◌, sym, ◌∙◌}
 use Prim.Native.Nat.{ℕ}
-use Rattle.lifts.specs.Lifting.{height_in, refusal_by}
-use Rattle.lifts.specs.Numbers.{judged_number}
-use Rattle.depths.specs.Depths.{depth_by}
+use Rattle.std.proofs.lemmas.Result.{err_from_is_err_and}
+use Rattle.lifts.specs.Lifting.{refusal_by}
+use Rattle.store.specs.declared.Store.{Store}
+use Rattle.store.specs.Slots.{depth, height}
+use Rattle.store.proofs.Lifting.{judged_in}
 use Rattle.entries.specs.declared.Entry.{Entry}
 use Rattle.entries.specs.Promises.{lift_fault}
 use Rattle.entries.proofs.Comparing.{formed, never_eleven}
 use Rattle.entries.proofs.judge_entry.Goals as goal
 
-not-lift : (m : ℕ) (depths heights : List ℕ) (e : Entry) → (e.kind ≡ 0 → ⊥) → 0 ≡ lift_fault m depths heights e
-not-lift m depths heights e n = simp (ne_eqb e.kind 0 n)
+lift_judged : (s : Store) (e : Entry) {d left entered : ℕ} → e.kind ≡ 0 → d ≡ depth s e.second.0 → left ≡ height s e.shaft.0 → entered ≡ height s e.second.0
+    → refusal_by s.m d e.shaft.0 e.second.0 left entered ≡ lift_fault s e
+lift_judged s e z f g h = judged_in s _ _ f g h ∙ rw z
 
-lift-judged : (m : ℕ) (depths heights : List ℕ) (e : Entry) {d l n : ℕ} → e.kind ≡ 0 → d ≡ depth_by depths e.second.0 → l ≡ height_in heights e.shaft.0
-    → n ≡ height_in heights e.second.0 → refusal_by m d e.shaft.0 e.second.0 l n ≡ lift_fault m depths heights e
-lift-judged m depths heights e z f g h = rw (z, f, g, h)
-
-pub returns-then-e-ne0 : goal.returns-then-e-ne0
-returns-then-e-ne0 c = let a = c.args in not-lift a.m a.depths a.heights.now a.e c.if-e-ne0.true
-
-pub untrue_of-requires : goal.untrue_of-requires
-untrue_of-requires c =
-    λ z. never_eleven _ c.args.e _ _ _ (formed _ c.args.e c.requires.e_value) c.if-e-ne0.false (sym c.judge.ensures.has ∙ ap judged_number c.in-Refused.is ∙ z)
-
-pub returns-in-Allowed : goal.returns-in-Allowed
-returns-in-Allowed c =
+pub returns-in_err-judge : goal.returns-in_err-judge
+returns-in_err-judge c =
     let a = c.args in
-    sym (ap judged_number c.in-Allowed.is)
-    ∙ c.judge.ensures.has
-    ∙ lift-judged a.m a.depths a.heights.now a.e c.if-e-ne0.false c.depth_of-depth.ensures c.height_of-left.ensures c.height_of-entered.ensures
+    let p = err_from_is_err_and c.from_residual.result c.from_residual.ensures.1 in
+    let j = c.in_err-judge.ensures.has in
+    rw p.1
+    (p.2 (λ z. never_eleven _ a.e _ _ _ (formed _ a.e c.requires) c.if-e-ne0.false (sym j ∙ z))
+    ∙ j
+    ∙ lift_judged a.s.now a.e c.if-e-ne0.false c.depth_of-depth.ensures c.height_of-left.ensures c.height_of-entered.ensures)
 
-pub returns-in-Refused : goal.returns-in-Refused
-returns-in-Refused c =
-    let a = c.args in
-    c.untrue_of.ensures
-    ∙ sym (ap judged_number c.in-Refused.is)
-    ∙ c.judge.ensures.has
-    ∙ lift-judged a.m a.depths a.heights.now a.e c.if-e-ne0.false c.depth_of-depth.ensures c.height_of-left.ensures c.height_of-entered.ensures
+pub returns : goal.returns
+returns c = c.in_ok-judge.ensures.has ∙ lift_judged c.args.s.now c.args.e c.if-e-ne0.false c.depth_of-depth.ensures c.height_of-left.ensures c.height_of-entered.ensures

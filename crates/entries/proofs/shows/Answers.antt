@@ -11,7 +11,7 @@ pub returns-then-rows-eq0 : goal.returns-then-rows-eq0
 unfolding shown
 returns-then-rows-eq0 c =
     let a = c.args in
-    sym (ap (λ (k : ℕ). eqb a.number (shown a.slots.now a.x.0 k)) (sym c.height_at-rows.ensures ∙ c.if-rows-eq0.true))
+    sym (ap (λ (k : ℕ). eqb a.number (shown a.s.now.slots a.x.0 k)) (sym c.height_at-rows.ensures ∙ c.if-rows-eq0.true))
 
 pub returns : goal.returns
 returns c =

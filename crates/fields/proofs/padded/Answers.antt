@@ -1,7 +1,7 @@
 -- `padded` meets its contract: no bit left, a whole byte or more left, or the bits left as one field.
-use mathlib.Core.Path.{sym}
+use mathlib.Core.Path.{◌∙◌}
 use native.Mathlib.Omega.{arith}
-use Rattle.fields.proofs.Endings.{nothing_left, bytes_left, bits_left, not_missing}
+use Rattle.fields.proofs.Endings.{nothing_left, bytes_left, bits_left}
 use Rattle.fields.proofs.padded.Goals as goal
 
 pub returns-then-image-at : goal.returns-then-image-at
@@ -13,8 +13,5 @@ returns-then-at-eq0 c = let a = c.args in bytes_left a.image.now a.at (omega ari
 pub returns-then-at-image : goal.returns-then-at-image
 returns-then-at-image c = let a = c.args in bytes_left a.image.now a.at (omega arith)
 
-pub returns-in-Missing : goal.returns-in-Missing
-returns-in-Missing c = let a = c.args in absurd (not_missing a.image.now a.at _ (omega arith) (sym c.in-Missing.ensures))
-
-pub returns-in-Value : goal.returns-in-Value
-returns-in-Value c = let a = c.args in bits_left a.image.now a.at _ (omega arith) _ (omega arith) (sym c.in-Value.ensures)
+pub returns : goal.returns
+returns c = let a = c.args in c.eq.ensures ∙ rw c.read_field.ensures (bits_left a.image.now a.at _ (omega arith) (omega arith))

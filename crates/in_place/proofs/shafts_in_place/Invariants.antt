@@ -1,13 +1,8 @@
 -- `shafts_in_place` meets its contract. The invariant: the shafts passed are in place.
 use mathlib.Core.Bool.{true}
 use mathlib.Core.Path.{◌≡◌}
-use Prim.Native.Nat.{◌-◌, ◌≤◌}
-use Rattle.lifts.specs.Lifting.{most_shafts}
 use Rattle.in_place.specs.InPlace.{all_below, shaft_in_place}
 use Rattle.in_place.proofs.shafts_in_place.Given as goal
 
 abbrev pub invariant-loop-x : goal.invariant-loop-x
-invariant-loop-x l = (l.x ≤ most_shafts) × (all_below l.x (shaft_in_place l.m l.depths l.heights l.slots) ≡ true)
-
-abbrev pub decreases-loop-x : goal.decreases-loop-x
-decreases-loop-x l = most_shafts - l.x
+invariant-loop-x l = all_below l.x (shaft_in_place l.m l.depths l.heights l.slots) ≡ true

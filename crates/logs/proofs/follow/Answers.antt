@@ -1,12 +1,7 @@
--- `follow` meets its contract: the store's own fault, or the log followed in its arrays.
-use Rattle.store.proofs.Checks.{accepted_none, refused_one}
+-- `follow` meets its contract: the store's own fault, or the log followed.
+use mathlib.Core.Path.{sym}
 use Rattle.logs.proofs.Tracing.{followed_refused}
 use Rattle.logs.proofs.follow.Goals as goal
 
-pub returns-in-Refused : goal.returns-in-Refused
-returns-in-Refused c =
-    let f = c.in-Refused.f in
-    followed_refused _ _ f (refused_one f _ _ _ c.check-checked.ensures c.in-Refused.is)
-
-pub trace-traced-requires : goal.trace-traced-requires
-trace-traced-requires c = (accepted_none _ _ _ c.check-checked.ensures c.in_default.is).0
+pub returns-in-Err : goal.returns-in-Err
+returns-in-Err c = followed_refused _ _ _ (sym c.in-Err.ensures.has)

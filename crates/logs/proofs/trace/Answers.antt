@@ -1,5 +1,4 @@
 -- `trace` meets its contract: a wrong length, or the entries.
-use Rattle.store.specs.Slots.{held}
 use Rattle.store.proofs.Acceptance.{accepted_shaped}
 use Rattle.logs.proofs.Following.{follow_entries}
 use Rattle.logs.proofs.Tracing.{traced_wrong}
@@ -12,5 +11,4 @@ pub trace_entries-requires : goal.trace_entries-requires
 trace_entries-requires c = accepted_shaped _ c.requires
 
 pub returns : goal.returns
-returns c =
-    rw (follow_entries (held c.args.m c.args.depths c.args.heights.now c.args.slots.now) c.args.log.now c.requires c.if-log-ne0.false) c.trace_entries.ensures
+returns c = rw (follow_entries c.args.s.now c.args.log.now c.requires c.if-log-ne0.false) c.trace_entries.ensures

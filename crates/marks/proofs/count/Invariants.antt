@@ -1,12 +1,9 @@
--- `count` meets its contract: after i words the sum is the ones of the first i.
+-- `count` meets its contract: after some words the sum is the ones of these.
 use mathlib.Core.Path.{◌≡◌}
-use Prim.Native.Nat.{◌-◌, ◌*◌, ◌≤◌}
+use Prim.Native.Nat.{◌*◌, ◌≤◌}
 use lib.ListN.{take}
-use Rattle.marks.specs.Marking.{mark_words, mark_count}
+use Rattle.marks.specs.Marking.{mark_count}
 use Rattle.marks.proofs.count.Given as goal
 
-abbrev pub invariant-loop-i : goal.invariant-loop-i
-invariant-loop-i l = (l.i ≤ mark_words) × (l.n ≡ mark_count (take l.i l.words)) × (l.n ≤ 64 * l.i)
-
-abbrev pub decreases-loop-i : goal.decreases-loop-i
-decreases-loop-i l = mark_words - l.i
+abbrev pub invariant-loop-w : goal.invariant-loop-w
+invariant-loop-w l = (l.n ≡ mark_count (take l.w-index l.fn.words)) × (l.n ≤ 64 * l.w-index)

@@ -1,18 +1,11 @@
 -- `has` meets its contract: the shift and the masks are the quotient and the remainders of the definition.
 use mathlib.Core.Path.{◌≡◌, ap}
-use Prim.Native.Nat.{ℕ, ◌<◌, ◌/◌, ◌%◌, ◌^◌}
-use native.Mathlib.Omega.{arith}
+use Prim.Native.Nat.{ℕ, ◌/◌, ◌%◌, ◌^◌}
 use lib.ListN.{get_or}
 use lib.Dec.{eqb}
-use lib.Bits.{bit_and, and_mask, mask_lt}
+use lib.Bits.{bit_and, and_mask}
 use Rattle.marks.specs.Marking.{marked}
 use Rattle.marks.proofs.has.Goals as goal
-
-pub overflow_cast-k : goal.overflow_cast-k
-overflow_cast-k c = let h : bit_and c.args.c 63 < 64 = mask_lt c.args.c 6 in omega arith
-
-pub overflow_shr-result : goal.overflow_shr-result
-overflow_shr-result c = mask_lt c.args.c 6
 
 pub returns : goal.returns
 unfolding marked

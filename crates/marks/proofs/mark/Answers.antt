@@ -2,11 +2,11 @@
 use mathlib.Core.Bool.{Bool, true, false, not, cond}
 use mathlib.Core.List.{List}
 use mathlib.Core.Path.{◌≡◌, refl, ap, ◌∙◌}
-use Prim.Native.Nat.{ℕ, ◌<◌, ◌*◌, ◌/◌, ◌^◌, ◌%◌}
+use Prim.Native.Nat.{ℕ, ◌*◌, ◌/◌, ◌^◌, ◌%◌}
 use native.Mathlib.Nat.{one-mul, mod-eq_of_lt}
 use native.Mathlib.Omega.{arith}
 use mir.Val.{bool_byte}
-use lib.Bits.{bit_and, bit_or, and_mask, mask_lt, or_zero_r}
+use lib.Bits.{bit_and, bit_or, and_mask, or_zero_r}
 use lib.ListN.{get_or, set}
 use lib.Seq.{set-get_or}
 use Rattle.marks.specs.Cassettes.{is_blank}
@@ -23,12 +23,6 @@ bit-set w c true =
 bit-set w c false =
     let b : 1 * 2 ^ (c % 64) % 2 ^ 64 ≡ 2 ^ (c % 64) = ap (λ (n : ℕ). n % 2 ^ 64) (one-mul _) ∙ mod-eq_of_lt (bit_lt (c % 64) (omega arith)) in
     rw b refl
-
-pub overflow_cast-k : goal.overflow_cast-k
-overflow_cast-k c = let h : bit_and c.args.c 63 < 64 = mask_lt c.args.c 6 in omega arith
-
-pub overflow_shl-words : goal.overflow_shl-words
-overflow_shl-words c = mask_lt c.args.c 6
 
 pub returns : goal.returns
 returns c =

@@ -3,7 +3,7 @@ use mathlib.Core.Bool.{Bool, true}
 use mathlib.Core.Path.{◌≡◌, sym, ◌∙◌, subst}
 use mathlib.Core.List.{List}
 use Prim.Native.Nat.{ℕ}
-use Rattle.marks.specs.declared.Taken.TheVariants.{Added}
+use Rattle.std.specs.Prelude.{Ok}
 use Rattle.marks.specs.Taking.{TakenIs}
 use Rattle.marks.specs.Cassettes.{is_cassette}
 use Rattle.marks.proofs.Takes.{none_is, twice_is, added_is}
@@ -24,5 +24,5 @@ returns-then-has c =
 pub returns : goal.returns
 returns c =
     let a = c.args in
-    subst (λ (w : List ℕ). TakenIs a.words.now a.c w Added) (sym c.mark.ensures)
+    subst (λ (w : List ℕ). TakenIs a.words.now a.c w (Ok tt)) (sym c.mark.ensures)
     (added_is a.words.now a.c (one a.c c.is_cassette.ensures c.if-not-is_cassette.false) (sym c.has.ensures ∙ c.if-has.false))

@@ -1,24 +1,19 @@
--- `put_many` meets its contract. The invariant: after i turns the byte stands i times.
-use mathlib.Core.Path.{◌≡◌, refl, ap, ◌∙◌}
-use Prim.Native.Nat.{ℕ}
+-- `put_many` meets its contract: the part of the list that is filled is that many bytes written.
+use mathlib.Core.List.{List}
+use mathlib.Core.Path.{◌≡◌, refl}
+use Prim.Native.Nat.{ℕ, ◌+◌, ◌≤◌}
 use native.Mathlib.Omega.{arith}
-use lib.ListN.{replicate, replicate-append-replicate}
+use lib.ListN.{length, replicate, length-replicate, length-take, length-drop}
+use lib.Seq.{drop-drop}
+use borrow.Rule.Slice.PartMut.{put_mid, mid_of}
 use Rattle.moves.specs.Written.{written}
-use Rattle.moves.proofs.Wrote.{wrote_nothing, wrote_more}
 use Rattle.moves.proofs.put_many.Goals as goal
 
-pub loop-i-init : goal.loop-i-init
-loop-i-init c = (omega arith, wrote_nothing c.args.out.now c.args.at)
-
-pub loop-i-preserved : goal.loop-i-preserved
-loop-i-preserved c =
-    let l = c.loop-i in
-    let b = c.args.b in
-    (omega arith, wrote_more b l.invariant.1 (omega arith) (omega arith) (replicate-append-replicate l.i 1 b))
+filled : (came ys : List ℕ) (at k n b : ℕ) → at + k ≤ length came → n ≡ k → ys ≡ replicate (length (mid_of at n came)) b → put_mid at n came ys ≡ written came at (replicate k b)
+unfolding written
+filled came ys at k n b h e f =
+    let i : length (mid_of at n came) ≡ k = simp (length-take, length-drop) (omega arith) in
+    rw (f, i, e, drop-drop, length-replicate) refl
 
 pub returns : goal.returns
-returns c =
-    let l = c.loop-i in
-    let a = c.args in
-    let e : l.i ≡ a.k = omega arith in
-    (refl, l.invariant.1.bytes (omega arith) ∙ ap (λ (i : ℕ). written a.out.now a.at (replicate i a.b)) e)
+returns c = (refl, filled c.args.out.now _ c.args.at c.args.k _ c.args.b c.requires (omega arith) (c.fill.ensures.after (λ y h. h)))

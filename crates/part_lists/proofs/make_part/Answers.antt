@@ -1,5 +1,8 @@
 -- `make_part` meets its contract.
+use mathlib.Core.List.{List, ◌++◌}
 use mathlib.Core.Path.{sym, ap, ◌∙◌, subst}
+use Prim.Native.Nat.{ℕ}
+use lib.ListN.{drop}
 use Rattle.store.specs.declared.Store.{Store}
 use Rattle.store.proofs.Acceptance.{accepted_shaped}
 use Rattle.part_lists.specs.PartLists.{PartMade}
@@ -25,12 +28,12 @@ make-count-requires c =
     let r = make_ready _ _ _ p.comparable c.part_of-a.ensures c.part_of-b.ensures c.if-a-eq0.false p.reachable p.start_in_bounds in
     record { comparable = r.0; rule = r.1.0; start_in_bounds = r.1.1 }
 
-pub rename-requires : goal.rename-requires
-rename-requires c =
+pub slice_bounds-rename-end : goal.slice_bounds-rename-end
+slice_bounds-rename-end c =
     let p = c.requires in
     made_fits _ _ _ p.comparable c.part_of-a.ensures c.part_of-b.ensures c.make-count.ensures p.start_in_bounds
 
 pub returns : goal.returns
 returns c =
-    subst (PartMade c.args.some c.args.start c.args.goal c.args.out.now c.make-count.result) (sym c.rename.ensures)
+    subst (λ (w : List ℕ). PartMade c.args.some c.args.start c.args.goal c.args.out.now c.make-count.result (w ++ drop c.make-count.result c.make-count.new.out)) (sym c.rename.ensures)
     (part_made _ _ _ c.requires.comparable c.part_of-a.ensures c.part_of-b.ensures c.numbering_of-numbering.result c.numbering_of-numbering.ensures c.make-count.ensures)

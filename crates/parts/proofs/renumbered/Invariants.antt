@@ -1,5 +1,5 @@
 -- `renumbered` meets its contract. The invariant: the places passed have their values.
-use Prim.Native.Nat.{ℕ, ◌-◌}
+use Prim.Native.Nat.{ℕ}
 use lib.ListN.{get_or}
 use Rattle.lifts.specs.Lifting.{most_shafts}
 use Rattle.parts.proofs.Tabulated.{FilledTo}
@@ -7,6 +7,3 @@ use Rattle.parts.proofs.renumbered.Given as goal
 
 abbrev pub invariant-loop-i : goal.invariant-loop-i
 invariant-loop-i l = FilledTo (λ (j : ℕ). get_or l.values (get_or l.names j 0) 0) most_shafts l.out l.i
-
-abbrev pub decreases-loop-i : goal.decreases-loop-i
-decreases-loop-i l = 16 - l.i

@@ -1,20 +1,13 @@
 -- `reachable` meets its contract: the fault of the pair, or yes or no by the rule, which is reachability.
-use mathlib.Core.Path.{sym, subst}
-use Rattle.reachable.specs.Promises.{ReachSays}
-use Rattle.pairs.proofs.Answers.{comparable_by, count_by, faulty_by}
+use Rattle.std.proofs.lemmas.Result.{err_from_is_err_and}
 use Rattle.reachable.proofs.Answers.{said_by_rule}
 use Rattle.reachable.proofs.reachable.Goals as goal
 
-pub returns-in-Refused : goal.returns-in-Refused
-returns-in-Refused c = faulty_by c.args.start c.args.goal _ _ c.compare-compared.ensures c.in-Refused.is
+pub returns-in_err-n : goal.returns-in_err-n
+returns-in_err-n c = let p = err_from_is_err_and c.from_residual.result c.from_residual.ensures.1 in rw (p.1, p.2) c.in_err-n.ensures
 
 pub rule_holds-requires : goal.rule_holds-requires
-rule_holds-requires c =
-    let e = c.compare-compared.ensures in
-    record { comparable = comparable_by _ _ _ e c.in_default.is; n_value = count_by _ _ _ e c.in_default.is }
+rule_holds-requires c = record { comparable = c.in_ok-n.ensures.0; n_value = c.in_ok-n.ensures.1 }
 
 pub returns : goal.returns
-returns c =
-    let a = c.args in
-    let p = comparable_by _ _ _ c.compare-compared.ensures c.in_default.is in
-    subst (ReachSays a.start a.goal) (sym c.yes_or_no.ensures) (said_by_rule _ _ _ p c.rule_holds.ensures)
+returns c = said_by_rule _ _ _ c.in_ok-n.ensures.0 c.rule_holds.ensures

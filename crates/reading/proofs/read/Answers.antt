@@ -1,17 +1,9 @@
--- `read` meets its contract: the state at the end of the reading, as an answer.
-use mathlib.Core.Path.{◌∙◌}
-use Rattle.reading.proofs.Endings.{fault_given, read_refused, read_accepted}
+-- `read` meets its contract: the store that was read, or the smallest one with the fault.
+use Rattle.reading.proofs.Endings.{read_accepted, read_refused}
 use Rattle.reading.proofs.read.Goals as goal
 
-pub answer_of-answer-requires : goal.answer_of-answer-requires
-answer_of-answer-requires c =
-    fault_given c.args.image.now c.read_body-end.result _ (c.read_head-head.ensures.same ∙ c.read_body-end.ensures.same)
+pub returns-in-Ok : goal.returns-in-Ok
+returns-in-Ok c = read_accepted _ _ c.in-Ok.ensures
 
-pub returns-then-end-ne0 : goal.returns-then-end-ne0
-returns-then-end-ne0 c =
-    rw c.smallest.ensures
-    (read_refused c.args.image.now c.read_body-end.result _ (c.read_head-head.ensures.same ∙ c.read_body-end.ensures.same) _ c.answer_of-answer.ensures c.if-end-ne0.true)
-
-pub returns : goal.returns
-returns c =
-    read_accepted c.args.image.now c.read_body-end.result _ (c.read_head-head.ensures.same ∙ c.read_body-end.ensures.same) _ c.answer_of-answer.ensures c.if-end-ne0.false
+pub returns-in-Err : goal.returns-in-Err
+returns-in-Err c = rw c.smallest.ensures (read_refused _ _ c.in-Err.ensures)

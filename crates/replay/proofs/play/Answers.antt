@@ -1,30 +1,24 @@
--- `play` meets its contract. The invariant: the replay of the whole list goes on from the store reached with what is left of the list, and the counts are
--- those of the lifts before.
-use Rattle.std.proofs.Common.{sym, refl, ap, ◌∙◌, arith}
-use Rattle.lifts.specs.Numbers.{judged_number}
+-- `play` meets its contract: the next lift is made and counted, or stops the replay.
+use Rattle.std.proofs.Common.{refl, ◌∙◌, arith}
 use Rattle.replay.proofs.Playing.{count_length, goes_start, goes_through, goes_stopped, goes_lifted, can_count}
 use Rattle.replay.proofs.play.Goals as goal
 
 pub loop-count-init : goal.loop-count-init
 loop-count-init c = let p = c.requires in (refl, goes_start _ _ _ p.accepted p.none_counted)
 
-pub try_lift-tried-requires : goal.try_lift-tried-requires
-try_lift-tried-requires c = c.loop-count.invariant.1.shaped
-
-pub returns-in-Refused : goal.returns-in-Refused
-returns-in-Refused c =
-    goes_stopped _ _ _ _ _ c.loop-count.invariant.1 c.loop-count-test.true c.left_of-from.ensures c.entered_of-to.ensures c.try_lift-tried.ensures c.in-Refused.r (sym (ap judged_number c.in-Refused.is))
+pub returns-in-Err : goal.returns-in-Err
+returns-in-Err c =
+    goes_stopped _ _ _ _ _ c.loop-count.invariant.1 c.loop-count-test.true c.left_of-from.ensures c.entered_of-to.ensures _ c.in-Err.ensures
 
 pub count_carry-requires : goal.count_carry-requires
 count_carry-requires c =
-    can_count _ _ _ _ _ c.loop-count.invariant.1 c.loop-count-test.true c.left_of-from.ensures c.entered_of-to.ensures c.try_lift-tried.ensures (ap judged_number c.in_default.is) (omega arith)
+    can_count _ _ _ _ _ c.loop-count.invariant.1 c.loop-count-test.true c.left_of-from.ensures c.entered_of-to.ensures c.in-Ok.ensures (omega arith)
 
 pub loop-count-preserved : goal.loop-count-preserved
-loop-count-preserved c =
-    let w = c.count_carry.ensures in (
-      count_length w ∙ c.loop-count.invariant.0,
-      goes_lifted _ _ _ _ _ c.loop-count.invariant.1 c.loop-count-test.true c.left_of-from.ensures c.entered_of-to.ensures c.try_lift-tried.ensures (ap judged_number c.in_default.is) w,
-    )
+loop-count-preserved c = (
+  count_length c.count_carry.ensures ∙ c.loop-count.invariant.0,
+  goes_lifted _ _ _ _ _ c.loop-count.invariant.1 c.loop-count-test.true c.left_of-from.ensures c.entered_of-to.ensures c.in-Ok.ensures c.count_carry.ensures,
+)
 
 pub returns : goal.returns
-returns c = goes_through _ _ _ _ _ c.loop-count.invariant.1 c.loop-count-test.false
+returns c = goes_through _ _ _ _ _ c.loop-count.invariant.1 (omega arith)

@@ -1,17 +1,18 @@
 -- `call_replay` meets its contract: the image's fault or 10, or the replay's answer and the image of the store reached.
-use mathlib.Core.Path.{refl}
+use mathlib.Core.Path.{refl, sym, ap, ◌∙◌}
 use native.Mathlib.Omega.{arith}
-use Rattle.calls.proofs.HandedBack.{back_refused}
+use Rattle.calls.proofs.HandedBack.{back_refused, lent_answer_number, lent_some}
 use Rattle.replay_call.proofs.ReplayAnswers.{replay_answered}
 use Rattle.replay_call.proofs.call_replay.Goals as goal
 
-pub returns-then-number-ne0 : goal.returns-then-number-ne0
-returns-then-number-ne0 c =
-    back_refused _ _ _ c.refused.ensures c.read_lent-one.ensures.number c.if-number-ne0.true
+pub returns-in-Err : goal.returns-in-Err
+returns-in-Err c =
+    let e = ap lent_answer_number (sym c.in-Err.is) ∙ c.read_lent-lent.ensures.number in
+    back_refused _ _ _ c.refused.ensures (c.number.ensures ∙ e) (λ z. lent_some _ (sym c.number.ensures ∙ z))
 
 pub play-played-requires : goal.play-played-requires
-play-played-requires c = record { accepted = c.read_lent-one.ensures.accepted c.if-number-ne0.false; none_counted = λ i. refl }
+play-played-requires c = record { accepted = c.read_lent-lent.ensures.accepted (ap lent_answer_number c.in_default.is); none_counted = λ i. refl }
 
 pub returns : goal.returns
 returns c =
-    replay_answered _ (λ i. omega (arith, c.type_inv.image i)) _ c.read_lent-one.ensures c.if-number-ne0.false c.play-played.ensures c.form_in.ensures c.write.ensures c.end_number.ensures c.answer.ensures
+    replay_answered _ (λ i. omega (arith, c.type_inv.image i)) _ c.read_lent-lent.ensures (ap lent_answer_number c.in_default.is) c.play-played.ensures c.form_in.ensures c.write.ensures c.number-2.ensures c.answer.ensures

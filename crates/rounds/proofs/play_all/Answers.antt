@@ -5,9 +5,6 @@ use Rattle.rounds.proofs.play_all.Goals as goal
 pub loop-f-init : goal.loop-f-init
 loop-f-init c = rounding_first _ c.requires.on_the_way
 
-pub finished-requires : goal.finished-requires
-finished-requires c = c.loop-f.invariant.way.held.shaped.shafts
-
 pub choose-r-requires : goal.choose-r-requires
 choose-r-requires c =
     let p = choose_ready c.loop-f.invariant (c.finished.ensures.not_so c.loop-f-test.true) in

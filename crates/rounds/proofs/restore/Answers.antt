@@ -1,18 +1,11 @@
 -- `restore` meets its contract.
-use native.Mathlib.Omega.{arith}
-use Rattle.rounds.proofs.Playing.{restore_row, seek_ready, restored_there, restore_place, restored}
+use Rattle.rounds.proofs.Playing.{seek_ready, restored_there, restore_place, restored}
 use Rattle.rounds.proofs.restore.Goals as goal
-
-pub next-v-requires : goal.next-v-requires
-next-v-requires c = restore_row c.requires.on_the_way c.requires.can_restore
 
 pub seek-at-requires : goal.seek-at-requires
 seek-at-requires c =
     let p = seek_ready c.requires.on_the_way c.requires.can_restore _ c.next-v.ensures in
     record { fits = p.0; somewhere = p.1 }
-
-pub overflow_add-row : goal.overflow_add-row
-overflow_add-row c = omega (arith, (restore_row c.requires.on_the_way c.requires.can_restore).1)
 
 pub returns-then-at-shaft : goal.returns-then-at-shaft
 returns-then-at-shaft c = restored_there c.requires.on_the_way c.requires.can_restore _ c.next-v.ensures _ c.seek-at.ensures _ _ c.if-at-shaft.true

@@ -1,11 +1,6 @@
 -- `bring` meets its contract.
-use Rattle.serving.proofs.Bringing.{room_ready, place_ready, served}
+use Rattle.serving.proofs.Bringing.{place_ready, served}
 use Rattle.serving.proofs.bring.Goals as goal
-
-pub make_room-room-requires : goal.make_room-room-requires
-make_room-room-requires c =
-    let p = room_ready c.args.count c.args.out.now c.requires.to_in_bounds c.requires.ready in
-    record { ready = p.0; count_in_bounds = p.1 }
 
 pub place-end-requires : goal.place-end-requires
 place-end-requires c =

@@ -1,11 +1,7 @@
 -- `serve` meets its contract.
 use mathlib.Core.Path.{refl}
-use native.Mathlib.Omega.{arith}
-use Rattle.serving.proofs.Servings.{next_row, already, leave_ready, bring_left, served_left, bring_from, served_from}
+use Rattle.serving.proofs.Servings.{already, leave_ready, bring_left, served_left, bring_from, served_from}
 use Rattle.serving.proofs.serve.Goals as goal
-
-pub overflow_add-row : goal.overflow_add-row
-overflow_add-row c = let h = next_row c.requires.on_the_way c.requires.round_for in omega arith
 
 pub returns-then-from-row : goal.returns-then-from-row
 returns-then-from-row c = already c.requires.on_the_way c.requires.round_for c.args.count c.args.out.now _ refl c.if-from-shaft.true c.if-from-row.true

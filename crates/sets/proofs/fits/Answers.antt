@@ -8,17 +8,17 @@ use Rattle.sets.proofs.SetLaws.{none_past}
 use Rattle.sets.proofs.fits.Goals as goal
 
 pub loop-x-init : goal.loop-x-init
-loop-x-init c = (omega arith, λ y h i. absurd (omega arith))
+loop-x-init c = λ y h i. absurd (omega arith)
 
 pub returns-then-has : goal.returns-then-has
 returns-then-has c =
     let l = c.loop-x in
-    fails λ f. omega (arith, f l.x (sym c.has.ensures ∙ c.if-has.true), l.invariant.0)
+    fails λ f. omega (arith, f l.x (sym c.has.ensures ∙ c.if-has.true))
 
 pub loop-x-preserved : goal.loop-x-preserved
 loop-x-preserved c =
     let l = c.loop-x in
-    (omega (arith, l.invariant.0), λ y h i. elim (ℕ_discrete y l.x) [ yes e ↦ rw e (sym c.has.ensures ∙ c.if-has.false) | no n ↦ l.invariant.1 y h (omega arith) ])
+    λ y h i. elim (ℕ_discrete y l.x) [ yes e ↦ rw e (sym c.has.ensures ∙ c.if-has.false) | no n ↦ l.invariant y h (omega arith) ]
 
 pub returns : goal.returns
 returns c =
@@ -27,7 +27,7 @@ returns c =
     holds λ x e. elim (dec_lt x a.m) [
       | yes h ↦ h
       | no h ↦ absurd (true_false (sym e ∙ elim (dec_lt x 16) [
-        | yes i ↦ l.invariant.1 x (omega arith) (omega (arith, c.loop-x-test.false))
+        | yes i ↦ l.invariant x (omega arith) (omega (arith, c.loop-x-test.false))
         | no i ↦ none_past a.set x (search rules) (omega arith)
       ]))
     ]

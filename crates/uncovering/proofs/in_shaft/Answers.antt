@@ -1,7 +1,7 @@
 -- `in_shaft` meets its contract: the highest row that shows the number decides.
 use native.Mathlib.Omega.{arith}
 use Rattle.store.proofs.Acceptance.{accepted_shaped}
-use Rattle.uncovering.proofs.Nearest.{no_place, too_low, nearest_top}
+use Rattle.uncovering.proofs.Nearest.{too_low, nearest_top}
 use Rattle.uncovering.proofs.in_shaft.Goals as goal
 
 pub height_at-rows-requires : goal.height_at-rows-requires
@@ -12,9 +12,6 @@ top_row-row-requires c =
     let p = accepted_shaped _ c.requires.ready.accepted in
     let x = c.args.x in
     (omega (arith, c.requires.x_lt_m, p.shafts), omega (arith, c.height_at-rows.ensures, p.heights x, p.rows x))
-
-pub returns-then-row-eq0 : goal.returns-then-row-eq0
-returns-then-row-eq0 c = no_place _ _ _ _ _ c.requires.x_lt_m c.height_at-rows.ensures c.top_row-row.ensures c.if-row-eq0.true
 
 pub returns-then-row-floor_rows : goal.returns-then-row-floor_rows
 returns-then-row-floor_rows c =

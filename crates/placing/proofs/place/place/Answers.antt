@@ -1,7 +1,7 @@
 -- `place` meets its contract.
 use mathlib.Core.Path.{refl}
 use native.Mathlib.Omega.{arith}
-use Rattle.placing.proofs.Underway.{see_first, underway_first, few_ahead, next_ready, entered_room, lift_ready, see_next, underway_next, last_ready, placed_last}
+use Rattle.placing.proofs.Underway.{see_first, underway_first, next_ready, entered_room, lift_ready, see_next, underway_next, last_ready, placed_last}
 use Rattle.placing.proofs.place.place.Goals as goal
 
 pub look_ahead-view-requires : goal.look_ahead-view-requires
@@ -12,16 +12,13 @@ look_ahead-view-requires c =
 pub loop-view-init : goal.loop-view-init
 loop-view-init c = underway_first _ _ _ _ _ _ _ c.requires.held c.requires.can_place _ _ _ c.look_ahead-view.ensures
 
-pub overflow_add-view : goal.overflow_add-view
-overflow_add-view c = let h = few_ahead c.loop-view.invariant in omega arith
-
 pub next_lift-t-requires : goal.next_lift-t-requires
 next_lift-t-requires c =
     let p = next_ready c.loop-view.invariant (omega (arith, c.loop-view-test.true)) in
     record { fits = p.0; outside_nonzero = p.1.0; cover_bound = p.1.1.0; some_outside = p.1.1.1 }
 
-pub bounds-heights-y : goal.bounds-heights-y
-bounds-heights-y c = (entered_room c.loop-view.invariant c.next_lift-t.ensures).0
+pub bounds-work-t : goal.bounds-work-t
+bounds-work-t c = (entered_room c.loop-view.invariant c.next_lift-t.ensures).0
 
 pub put_lift-n-requires : goal.put_lift-n-requires
 put_lift-n-requires c =

@@ -1,49 +1,32 @@
 -- `check_shafts` meets its contract. The invariant: the shafts passed were taken without a fault.
-use mathlib.Core.List.{List}
-use mathlib.Core.Path.{◌≡◌, refl, ap, subst}
+use mathlib.Core.Path.{◌≡◌, subst}
 use Prim.Native.Nat.{ℕ, ◌≤◌}
 use native.Mathlib.Numerals.{add-one}
 use native.Mathlib.Omega.{arith}
-use Rattle.marks.specs.Taking.{taken_number}
-use Rattle.lifts.specs.Lifting.{height_in}
-use Rattle.depths.specs.Depths.{depth_by}
-use Rattle.store.specs.Slots.{held}
+use Rattle.std.proofs.lemmas.Result.{err_from_is_err_and}
+use Rattle.store.specs.Slots.{depth, height}
 use Rattle.store.proofs.Walked.{ShaftsSoFar, no_shafts, shaft_high, shaft_refused, shaft_taken, shafts_taken}
 use Rattle.store.proofs.accept.check_shafts.Goals as goal
 
--- a shaft is not too high
-fits : {rows deep : ℕ} (heights depths : List ℕ) (x : ℕ) → rows ≡ height_in heights x → deep ≡ depth_by depths x → rows ≤ deep → height_in heights x ≤ depth_by depths x
-fits heights depths x h d e = omega (arith, h, d, e)
-
 pub loop-x-init : goal.loop-x-init
-loop-x-init c = (refl, omega arith, no_shafts _ c.requires.marks_value)
+loop-x-init c = no_shafts _ c.none-marks.ensures
 
 pub returns-then-depth_of-rows : goal.returns-then-depth_of-rows
 returns-then-depth_of-rows c =
-    shaft_high c.loop-x.invariant.2 c.loop-x-test.true (omega (arith, c.if-depth_of-rows.true, c.depth_of.ensures, c.height_at-rows.ensures))
+    shaft_high c.loop-x.invariant c.loop-x-test.true (omega (arith, c.if-depth_of-rows.true, c.depth_of.ensures, c.height_at-rows.ensures))
 
-pub take_rows-requires : goal.take_rows-requires
-take_rows-requires c =
-    (omega (arith, c.loop-x-test.true, c.requires.m_le_most_shafts.0), omega (arith, c.if-depth_of-rows.false, c.depth_of.ensures, c.requires.m_le_most_shafts.1 c.loop-x.x))
-
-pub returns-in-NoCassette : goal.returns-in-NoCassette
-returns-in-NoCassette c =
-    shaft_refused c.loop-x.invariant.2 _ c.loop-x-test.true (fits c.args.heights.now c.args.depths c.loop-x.x c.height_at-rows.ensures c.depth_of.ensures c.if-depth_of-rows.false) (rw (← c.height_at-rows.ensures) c.take_rows.ensures) (ap taken_number c.in-NoCassette.is)
-
-pub returns-in-Twice : goal.returns-in-Twice
-returns-in-Twice c =
-    shaft_refused c.loop-x.invariant.2 _ c.loop-x-test.true (fits c.args.heights.now c.args.depths c.loop-x.x c.height_at-rows.ensures c.depth_of.ensures c.if-depth_of-rows.false) (rw (← c.height_at-rows.ensures) c.take_rows.ensures) (ap taken_number c.in-Twice.is)
+pub returns-in_err-take_rows : goal.returns-in_err-take_rows
+returns-in_err-take_rows c =
+    let p = err_from_is_err_and c.from_residual.result c.from_residual.ensures.1 in
+    let h : height c.args.s.now c.loop-x.x ≤ depth c.args.s.now c.loop-x.x = omega (arith, c.if-depth_of-rows.false, c.depth_of.ensures, c.height_at-rows.ensures) in
+    rw (p.1, p.2) (shaft_refused c.loop-x.invariant _ c.loop-x-test.true h {words' = c.take_rows.new.marks} (rw (← c.height_at-rows.ensures) c.in_err-take_rows.ensures))
 
 pub loop-x-preserved : goal.loop-x-preserved
-loop-x-preserved c = (
-  refl,
-  omega (arith, c.loop-x-test.true),
-  rw add-one
-      (shaft_taken c.loop-x.invariant.2 (fits c.args.heights.now c.args.depths c.loop-x.x c.height_at-rows.ensures c.depth_of.ensures c.if-depth_of-rows.false) (rw (← c.height_at-rows.ensures) c.take_rows.ensures) c.in-Added.is),
-)
+loop-x-preserved c =
+    let h : height c.args.s.now c.loop-x.x ≤ depth c.args.s.now c.loop-x.x = omega (arith, c.if-depth_of-rows.false, c.depth_of.ensures, c.height_at-rows.ensures) in
+    rw add-one (shaft_taken c.loop-x.invariant h (rw (← c.height_at-rows.ensures) c.in_ok-take_rows.ensures))
 
 pub returns : goal.returns
 returns c =
-    let a = c.args in
-    let k : c.loop-x.x ≡ a.m = omega (arith, c.loop-x-test.false, c.loop-x.invariant.1) in
-    shafts_taken (subst (λ (n : ℕ). ShaftsSoFar (held a.m a.depths a.heights.now a.slots.now) n c.loop-x.marks) k c.loop-x.invariant.2)
+    let k : c.loop-x.x ≡ c.args.s.now.m = omega (arith, c.loop-x-test.false, c.loop-x.auto.x-end) in
+    shafts_taken (subst (λ (n : ℕ). ShaftsSoFar c.args.s.now n c.loop-x.marks) k c.loop-x.invariant)
