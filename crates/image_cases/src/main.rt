@@ -66,10 +66,9 @@ fn read_back(rt: &impl Print, out: &[u8], n: usize) -> io::Result<()> {
 
 // Writes a store in a form, and prints the number, the count, and the lent bytes: the image and two more, which are as they came.
 fn written(rt: &impl Print, what: &str, form: u8, s: Store, out: &mut [u8]) -> io::Result<()> {
-    let (number, n) = match write(form, s, out) {
-        Ok(count) => (0, count),
-        Err(f) => (f.number(), 0),
-    };
+    let answer = write(form, s, out);
+    let number = answer.number();
+    let n = answer.unwrap_or(0);
     print!(rt; "{what}{number}  count {n}  lent bytes")?;
     if n < 500 {
         say_bytes(rt, out, n + 2)?;

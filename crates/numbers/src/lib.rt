@@ -114,13 +114,13 @@ impl<R: Numbered> Numbered for End<R> {
     }
 }
 
-// An answer that is yes, or refused.
-impl<E: Numbered> Numbered for Result<(), E> {
+// An answer, whatever comes with it, or a refusal.
+impl<A: Copy, E: Numbered> Numbered for Result<A, E> {
     ghost number = { result_number E.number };
 
     fn number(self) -> u8 {
         match self {
-            Ok(()) => 0,
+            Ok(_) => 0,
             Err(e) => e.number(),
         }
     }

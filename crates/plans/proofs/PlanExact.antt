@@ -1,4 +1,4 @@
--- The promise of the list maker is exact: no two values of its answer are right at once, 15 is given exactly where no list exists, a list made exactly
+-- The promise of the list maker is exact: no two values of its answer are right at once but for the count of a list, 15 is given exactly where no list exists, a list made exactly
 -- where one does and enough is lent, and the greatest list space always suffices.
 use borrow.Author.Tests.{lt-ltb, le-ltb}
 use mathlib.Core.Bool.{cond}

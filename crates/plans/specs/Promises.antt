@@ -1,5 +1,5 @@
 -- What the list maker promises (document 01, "Which comes first", and request 6/13; demand 3): for each value of the answer, what it says of the two stores
--- and the lent bytes, and what it leaves in them. No two values can be right at once (`proofs/PlanExact.antt`).
+-- and the lent bytes, and what it leaves in them. No two values can be right at once, but for the count of a list, since which list is free (`proofs/PlanExact.antt`).
 use Rattle.std.specs.Prelude.{List, ◌≡◌, ℕ, ◌≤◌, ◌<◌, length, Result, Ok, Err}
 use Rattle.store.specs.declared.Store.{Store}
 use Rattle.store.specs.Slots.{list_space}

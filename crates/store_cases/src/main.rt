@@ -46,7 +46,7 @@ fn changed<F: FnOnce(&mut Store)>(change: F) -> Store
 }
 
 fn check(rt: &impl Print, what: &str, s: Store) -> io::Result<()> {
-    println!(rt; "{what}: {}", s.check().map(|_| ()).number())
+    println!(rt; "{what}: {}", s.check().number())
 }
 
 fn frame_cases(rt: &impl Print) -> io::Result<()> {
